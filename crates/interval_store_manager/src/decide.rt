@@ -40,7 +40,7 @@ pub fn release_decision(m: IntervalStoreManager, starts: &[u16], ends: &[u16], i
     ensures { λ r. ⌜ decisionMeans r ≡ releaseDecided m (now (starts .entry)) (now (ends .entry)) index ⌝ }
 {
     let mut marks = [0u8; 1024];
-    let checked = mark_free(m, starts, ends, &mut marks);
+    let checked = mark_free(m, starts, ends, &mut marks[..]);
     let ok = checked.ok;
     if ok {
         if m.capacity <= index {

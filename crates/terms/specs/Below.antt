@@ -34,6 +34,11 @@ both false b e = absurd (let z : _≡_ {A = ℕ} 0 1 = cc in omega arith)
 pub and-make : (a b : Bool) → a ≡ true → b ≡ true → a && b ≡ true
 and-make a b e f = rw (e, f)
 
+-- a test that cannot hold fails
+pub fails : (b : Bool) → (b ≡ true → ⊥) → b ≡ false
+fails true h = absurd (h refl)
+fails false h = refl
+
 -- a number below n + 1 is below n or is n
 pub below-or-last : (n i : ℕ) → i < suc n → (i < n) ⊎ (i ≡ n)
 below-or-last n i h = elim (decLt i n) [ yes l ↦ inl l | no g ↦ inr (omega arith) ]
