@@ -1,10 +1,10 @@
 -- The pass that marks the free indices: what holds after the first i intervals, and what each way out of it shows.
-use Prim.Native.Nat.{ℕ, zero, suc, _+_, _-_, _≤_, _<_}
+use Prim.Native.Nat.{ℕ, _+_, _-_, _≤_, _<_}
 use native.Mathlib.Omega.{arith}
 use native.Mathlib.Decide.{decLt}
 use native.Mathlib.Numerals.{add-one}
 use mathlib.Core.List.{List}
-use mathlib.Core.Bool.{Bool, true, false, _&&_, _||_, or-true, or-false}
+use mathlib.Core.Bool.{true, false, _&&_, or-true, or-false}
 use mathlib.Core.Path.{_≡_, refl, sym, _∙_, ap}
 use lib.ListN.{length, getD}
 use Rattle.terms.specs.Below.{one, both, fails, every-at}
@@ -12,7 +12,7 @@ use borrow.Author.Tests.{leb-true}
 use lib.Dec.{leb}
 use Rattle.interval_store_manager.specs.Intervals.{inside, holders, isFree, inBounds, noneShared}
 use Rattle.interval_store_manager.specs.IntervalLaws.{inside-yes, inside-left, inside-right}
-use Rattle.interval_store_manager.specs.StackLaws.{Bounded, bounded, bounded-make, sizes, sizes-none, sizes-more, sizes-grow, free-number}
+use Rattle.interval_store_manager.specs.StackLaws.{Bounded, bounded-make, sizes, sizes-none, sizes-more, sizes-grow, free-number}
 use Rattle.interval_store_manager.specs.Sound.{free-le-capacity}
 use Rattle.interval_store_manager.specs.FreeLaws.{free-more, empty-stack}
 use Rattle.interval_store_manager.specs.Marks.{filled, Unmarked, Marks, Swept}
@@ -36,14 +36,14 @@ marks-more i ss es marks marks′ h m f k =
     let free = free-more (inside s e k) i (i + 1) ss es ss es k held in
     f k
     ∙ (elim (decLt k s) [
-      yes l ↦ filled-below marks s (e + 1) k l ∙ (m k ∙ rw (inside-left s e k l) (ap one (sym (or-false (isFree i ss es k)))))
-    | no g ↦
-      elim (decLt e k) [
-        yes l ↦ filled-above marks s (e + 1) k (omega arith) ∙ (m k ∙ rw (inside-right s e k l) (ap one (sym (or-false (isFree i ss es k)))))
-      | no d ↦
-        filled-in marks s (e + 1) k (omega arith) (omega arith)
-        ∙ rw (inside-yes s e k (omega arith) (omega arith)) (ap one (sym (or-true (isFree i ss es k))))
-      ]
+      | yes l ↦ filled-below marks s (e + 1) k l ∙ (m k ∙ rw (inside-left s e k l) (ap one (sym (or-false (isFree i ss es k)))))
+      | no g ↦
+          elim (decLt e k) [
+            | yes l ↦ filled-above marks s (e + 1) k (omega arith) ∙ (m k ∙ rw (inside-right s e k l) (ap one (sym (or-false (isFree i ss es k)))))
+            | no d ↦
+                filled-in marks s (e + 1) k (omega arith) (omega arith)
+                ∙ rw (inside-yes s e k (omega arith) (omega arith)) (ap one (sym (or-true (isFree i ss es k))))
+          ]
     ]
     ∙ ap one (sym free))
 
@@ -55,7 +55,7 @@ begins c n ss es marks u =
       bounds = record { ordered = λ j l. absurd (omega arith); below = λ j l. absurd (omega arith) };
       total-is = sym (sizes-none c ss es);
       total-le = omega arith;
-      marked = λ k. u k ∙ ap one (sym (empty-stack ss es k))
+      marked = λ k. u k ∙ ap one (sym (empty-stack ss es k));
     }
 
 module _ (c n : ℕ) (ss es old marks : List ℕ) (total i : ℕ) (s : Sweeping c n ss es old marks total i) (l : i < n) where
@@ -66,7 +66,7 @@ module _ (c n : ℕ) (ss es old marks : List ℕ) (total i : ℕ) (s : Sweeping 
   bounds-more h g =
       record {
         ordered = λ j m. elim (decLt j i) [ yes p ↦ s .bounds .ordered j p | no q ↦ let e : j ≡ i = omega arith in rw e h ];
-        below = λ j m. elim (decLt j i) [ yes p ↦ s .bounds .below j p | no q ↦ let e : j ≡ i = omega arith in rw e g ]
+        below = λ j m. elim (decLt j i) [ yes p ↦ s .bounds .below j p | no q ↦ let e : j ≡ i = omega arith in rw e g ];
       }
 
   pub goes-on : (marks′ : List ℕ) → getD ss i 0 ≤ getD es i 0 → getD es i 0 < c → total + (getD es i 0 - getD ss i 0 + 1) ≤ c → length marks′ ≡ length marks → ((k : ℕ) → getD marks′ k 0 ≡ filled marks (getD ss i 0) (getD es i 0 + 1) k) → Sweeping c n ss es old marks′ (total + (getD es i 0 - getD ss i 0 + 1)) (i + 1)
@@ -77,7 +77,7 @@ module _ (c n : ℕ) (ss es old marks : List ℕ) (total i : ℕ) (s : Sweeping 
         bounds = bounds-more h g;
         total-is = total-more h g;
         total-le = t;
-        marked = marks-more i ss es marks marks′ h (s .marked) f
+        marked = marks-more i ss es marks marks′ h (s .marked) f;
       }
 
 -- what each way out shows
@@ -87,7 +87,7 @@ stops c n ss es marks h =
       bounds = λ e. no e;
       total-is = λ e. no e;
       marked = λ e. no e;
-      not-ok = λ e. fails (inBounds c n ss es && noneShared c n ss es) (λ f. let p = both (inBounds c n ss es) (noneShared c n ss es) f in h (p .0) (p .1))
+      not-ok = λ e. fails (inBounds c n ss es && noneShared c n ss es) (λ f. let p = both (inBounds c n ss es) (noneShared c n ss es) f in h (p .0) (p .1));
     }
   where
     no : {A : Type 0} → false ≡ true → A
@@ -100,7 +100,7 @@ finished c n ss es old marks total i s h =
       bounds = λ t. bounded-make c n ss es (rw e at (s .bounds));
       total-is = λ t. rw e at (s .total-is);
       marked = λ t. rw e at (s .marked);
-      not-ok = λ t. absurd (let z : _≡_ {A = ℕ} 0 1 = cc in omega arith)
+      not-ok = λ t. absurd (let z : _≡_ {A = ℕ} 0 1 = cc in omega arith);
     }
 
 -- sizes past the capacity: two intervals share an index

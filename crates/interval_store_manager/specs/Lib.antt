@@ -12,3 +12,4 @@ pub mod FreeLaws
 pub mod GetLaws
 pub mod ReleaseLaws
 pub mod ChangeLaws
+pub mod DecisionLaws

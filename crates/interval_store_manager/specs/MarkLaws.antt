@@ -1,20 +1,22 @@
 -- Laws of the marks: one index more is marked, one interval more is marked, and where the marks are as many as the sizes
 -- add up to.
-use Prim.Native.Nat.{ℕ, zero, suc, _+_, _-_, _≤_, _<_}
+use Prim.Native.Nat.{ℕ, zero, suc, _+_, _≤_, _<_}
 use native.Mathlib.Omega.{arith}
 use native.Mathlib.Decide.{decLt, ℕ-discrete}
-use native.Mathlib.Numerals.{add-one}
 use mathlib.Core.List.{List}
-use mathlib.Core.Bool.{Bool, true, false, cond, _&&_, and-false}
-use mathlib.Core.Path.{_≡_, refl, sym, _∙_, ap}
-use lib.ListN.{length, getD, set}
+use mathlib.Core.Bool.{and-false}
+use mathlib.Core.Path.{_≡_, refl, sym, _∙_}
+use lib.ListN.{length, getD, set, replicate}
 use lib.Seq.{getD-set-same, getD-set-other}
-use lib.Dec.{leb, ltb, eqb}
+use lib.Dec.{leb}
 use borrow.Author.Tests.{le-leb, lt-leb, le-ltb, lt-ltb}
-use Rattle.terms.specs.Below.{one, sumBelow, sum-same, countBelow}
-use Rattle.interval_store_manager.specs.Intervals.{inside, holders, isFree, freeNumber, inBounds, noneShared}
-use Rattle.interval_store_manager.specs.IntervalLaws.{inside-yes, inside-left, inside-right}
-use Rattle.interval_store_manager.specs.Marks.{filled, Unmarked, Marks}
+use Rattle.interval_store_manager.specs.Marks.{filled, Unmarked}
+
+-- a list of zeros marks nothing
+pub unmarked : (n : ℕ) → Unmarked (replicate n 0)
+unmarked zero k = refl
+unmarked (suc n) zero = refl
+unmarked (suc n) (suc k) = unmarked n k
 
 pub filled-in : (marks : List ℕ) (from to k : ℕ) → from ≤ k → k < to → filled marks from to k ≡ 1
 filled-in marks from to k h g = rw (le-leb from k h, lt-ltb k to g)
@@ -32,18 +34,18 @@ filled-none marks from k =
 pub filled-more : (old marks : List ℕ) (from i : ℕ) → from ≤ i → i < length marks → ((k : ℕ) → getD marks k 0 ≡ filled old from i k) → (k : ℕ) → getD (set marks i 1) k 0 ≡ filled old from (i + 1) k
 filled-more old marks from i h g f k =
     elim (ℕ-discrete k i) [
-      yes e ↦ rw (e, getD-set-same marks i 1 0 g) (sym (filled-in old from (i + 1) i h (omega arith)))
-    | no d ↦
-      getD-set-other marks i k 1 0 d
-      ∙ (f k
-      ∙ elim (decLt k from) [
-        yes l ↦ filled-below old from i k l ∙ sym (filled-below old from (i + 1) k l)
-      | no u ↦
-        elim (decLt k i) [
-          yes l ↦ filled-in old from i k (omega arith) l ∙ sym (filled-in old from (i + 1) k (omega arith) (omega arith))
-        | no v ↦
-          let past : i + 1 ≤ k = elim (decLt i k) [ yes l ↦ omega arith | no w ↦ absurd (d (omega arith)) ] in
-          filled-above old from i k (omega arith) ∙ sym (filled-above old from (i + 1) k past)
-        ]
-      ])
+      | yes e ↦ rw (e, getD-set-same marks i 1 0 g) (sym (filled-in old from (i + 1) i h (omega arith)))
+      | no d ↦
+          getD-set-other marks i k 1 0 d
+          ∙ (f k
+          ∙ elim (decLt k from) [
+            | yes l ↦ filled-below old from i k l ∙ sym (filled-below old from (i + 1) k l)
+            | no u ↦
+                elim (decLt k i) [
+                  | yes l ↦ filled-in old from i k (omega arith) l ∙ sym (filled-in old from (i + 1) k (omega arith) (omega arith))
+                  | no v ↦
+                      let past : i + 1 ≤ k = elim (decLt i k) [ yes l ↦ omega arith | no w ↦ absurd (d (omega arith)) ] in
+                      filled-above old from i k (omega arith) ∙ sym (filled-above old from (i + 1) k past)
+                ]
+          ])
     ]

@@ -1,52 +1,42 @@
+-- The decision, carried out.
 use borrow.Author.Needs.{needs}
-use Rattle.interval_store_manager.proofs.IntervalStoreManager.change_capacity.Statement.{
-  statement,
-}
+use mathlib.Core.Path.{sym, _∙_, ap}
+use Rattle.interval_store_manager.specs.Calls.{decisionMeans, changeDecided, changeSpec}
+use Rattle.interval_store_manager.specs.DecisionLaws.{change-go, goes, refuses}
+use Rattle.interval_store_manager.proofs.IntervalStoreManager.change_capacity.Statement.{statement}
 use Rattle.interval_store_manager.proofs.IntervalStoreManager.change_capacity.Tie as tie
-use Rattle.interval_store_manager.proofs.IntervalStoreManager.change_capacity.Reads as reads
-use Rattle.interval_store_manager.proofs.IntervalStoreManager.change_capacity.Lts as lts
-use Rattle.interval_store_manager.proofs.IntervalStoreManager.change_capacity_unchecked.Reads as change-capacity-unchecked-reads
-use Rattle.interval_store_manager.proofs.decide.change_decision.Reads as change-decision-reads
 
--- src/lib.rt:102:13
 change-decision-requires : tie.Need-change-decision-requires
 change-decision-requires c κs = search needs
 
--- src/lib.rt:104:30
 enum-known-d : tie.Need-enum-known-d
 enum-known-d c = search needs
 
--- src/lib.rt:109:62
 enum-told : tie.Need-enum-told
 enum-told c = search needs
 
--- src/lib.rt:109:21
 change-capacity-unchecked-requires : tie.Need-change-capacity-unchecked-requires
-change-capacity-unchecked-requires c κs = ?
+change-capacity-unchecked-requires c κs = change-go (c .before .before .before .before .before .before .before .before .before .args .self) (c .before .before .before .before .before .before .before .before .before .args .starts .now) (c .before .before .before .before .before .before .before .before .before .args .ends .now) (c .before .before .before .before .before .before .before .before .before .args .new-capacity) (sym (c .before .before .before .before .change-decision .ensures) ∙ ap decisionMeans (c .before .before .enum-told .given .1))
 
--- src/lib.rt:99:5
 same-length : tie.Need-same-length
 same-length c = search needs
 
--- src/lib.rt:99:5
 same-length-2 : tie.Need-same-length-2
 same-length-2 c = search needs
 
--- src/lib.rt:99:5
 returns : tie.Need-returns
-returns c = ?
+unfolding changeSpec
+returns c = sym (refuses (changeDecided (c .before .before .before .before .before .before .before .before .args .self) (c .before .before .before .before .before .before .before .before .args .starts .now) (c .before .before .before .before .before .before .before .before .args .ends .now) (c .before .before .before .before .before .before .before .before .args .new-capacity)) _ (c .before .before .before .before .before .before .before .before .args .self) (c .before .before .before .before .before .before .before .before .args .starts .now) (c .before .before .before .before .before .before .before .before .args .ends .now) _ (sym (c .before .before .before .change-decision .ensures) ∙ ap decisionMeans (c .before .d .given .1)))
 
--- src/lib.rt:99:5
 same-length-3 : tie.Need-same-length-3
 same-length-3 c = search needs
 
--- src/lib.rt:99:5
 same-length-4 : tie.Need-same-length-4
 same-length-4 c = search needs
 
--- src/lib.rt:99:5
 returns-2 : tie.Need-returns-2
-returns-2 c = ?
+unfolding changeSpec
+returns-2 c = c .before .before .before .before .change-capacity-unchecked .ensures ∙ sym (goes (changeDecided (c .before .before .before .before .before .before .before .before .before .before .before .before .before .before .args .self) (c .before .before .before .before .before .before .before .before .before .before .before .before .before .before .args .starts .now) (c .before .before .before .before .before .before .before .before .before .before .before .before .before .before .args .ends .now) (c .before .before .before .before .before .before .before .before .before .before .before .before .before .before .args .new-capacity)) (c .before .before .before .before .before .before .before .before .before .before .before .before .before .before .args .self) (c .before .before .before .before .before .before .before .before .before .before .before .before .before .before .args .starts .now) (c .before .before .before .before .before .before .before .before .before .before .before .before .before .before .args .ends .now) _ (sym (c .before .before .before .before .before .before .before .before .before .change-decision .ensures) ∙ ap decisionMeans (c .before .before .before .before .before .before .before .enum-told .given .1)))
 
 pub change-capacity-spec : {M : Type 1} → statement M
 change-capacity-spec =

@@ -1,5 +1,5 @@
 -- The invariant: the sum so far is that of the marks below i. A byte is below 256, so the sum fits.
-use Prim.Native.Nat.{ℕ, _≤_, _-_, _*_}
+use Prim.Native.Nat.{_≤_, _-_, _*_}
 use native.Mathlib.Omega.{arith}
 use native.Mathlib.Numerals.{add-one}
 use mathlib.Core.Path.{_≡_, refl}
@@ -7,8 +7,6 @@ use lib.ListN.{getD}
 use Rattle.terms.specs.Below.{sumBelow}
 use Rattle.interval_store_manager.proofs.check.count_ones.Statement.{statement}
 use Rattle.interval_store_manager.proofs.check.count_ones.Tie as tie
-use Rattle.interval_store_manager.proofs.check.count_ones.Reads as reads
-use Rattle.interval_store_manager.proofs.check.count_ones.Lts as lts
 
 abbrev Inv-loop : tie.InvT-loop
 Inv-loop marks capacity total₀ i₀ total i = (i ≤ capacity) × ((total ≡ sumBelow i (λ k. getD marks k 0)) × (total ≤ 255 * i))
@@ -37,10 +35,13 @@ loop-less c = omega arith
 
 loop-again : tie.Need-loop-again Inv-loop μ-loop
 unfolding sumBelow
-loop-again c = 
-    (omega arith,
-    (rw add-one (omega (arith, c .before .before .loop .inv .1 .0)),
-    omega (arith, c .shared-slice-known .given (c .before .before .loop .i))))
+loop-again c = (
+  omega arith,
+  (
+    rw add-one (omega (arith, c .before .before .loop .inv .1 .0)),
+    omega (arith, c .shared-slice-known .given (c .before .before .loop .i)),
+  ),
+)
 
 returns : tie.Need-returns Inv-loop μ-loop
 returns c =

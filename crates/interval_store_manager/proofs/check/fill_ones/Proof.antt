@@ -7,8 +7,6 @@ use Rattle.interval_store_manager.specs.Marks.{filled}
 use Rattle.interval_store_manager.specs.MarkLaws.{filled-none, filled-more}
 use Rattle.interval_store_manager.proofs.check.fill_ones.Statement.{statement}
 use Rattle.interval_store_manager.proofs.check.fill_ones.Tie as tie
-use Rattle.interval_store_manager.proofs.check.fill_ones.Reads as reads
-use Rattle.interval_store_manager.proofs.check.fill_ones.Lts as lts
 
 abbrev Inv-loop : tie.InvT-loop
 Inv-loop marks₀ from to i₀ marks i = (from ≤ i) × ((i ≤ to) × ((length marks ≡ length marks₀) × ((k : ℕ) → getD marks k 0 ≡ filled marks₀ from i k)))
@@ -29,11 +27,16 @@ loop-less : tie.Need-loop-less Inv-loop μ-loop
 loop-less c = omega arith
 
 loop-again : tie.Need-loop-again Inv-loop μ-loop
-loop-again c = 
-    (omega arith,
-    (omega arith,
-    (simp length-set (c .before .loop .inv .1 .1 .0),
-    filled-more (c .before .before .args .marks .now) (c .before .loop .marks) (c .before .before .args .from) (c .before .loop .i) (omega arith) (omega arith) (c .before .loop .inv .1 .1 .1))))
+loop-again c = (
+  omega arith,
+  (
+    omega arith,
+    (
+      simp length-set (c .before .loop .inv .1 .1 .0),
+      filled-more (c .before .before .args .marks .now) (c .before .loop .marks) (c .before .before .args .from) (c .before .loop .i) (omega arith) (omega arith) (c .before .loop .inv .1 .1 .1),
+    ),
+  ),
+)
 
 same-length : tie.Need-same-length Inv-loop μ-loop
 same-length c = c .before .loop .inv .1 .1 .0

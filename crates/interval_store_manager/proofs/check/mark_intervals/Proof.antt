@@ -6,9 +6,6 @@ use Rattle.interval_store_manager.specs.StackLaws.{bounded}
 use Rattle.interval_store_manager.proofs.Sweeping.{Sweeping, begins, total-more, goes-on, stops, finished, too-many}
 use Rattle.interval_store_manager.proofs.check.mark_intervals.Statement.{statement}
 use Rattle.interval_store_manager.proofs.check.mark_intervals.Tie as tie
-use Rattle.interval_store_manager.proofs.check.mark_intervals.Reads as reads
-use Rattle.interval_store_manager.proofs.check.mark_intervals.Lts as lts
-use Rattle.interval_store_manager.proofs.check.fill_ones.Reads as fill-ones-reads
 
 abbrev Inv-loop : tie.InvT-loop
 Inv-loop capacity n starts ends marks₀ total₀ i₀ marks total i = Sweeping capacity n starts ends marks₀ marks total i

@@ -1,19 +1,16 @@
+-- The marks are a local array of zeros.
 use borrow.Author.Needs.{needs}
+use native.Mathlib.Omega.{arith}
+use Rattle.interval_store_manager.specs.MarkLaws.{unmarked}
 use Rattle.interval_store_manager.proofs.check.well_formed.Statement.{statement}
 use Rattle.interval_store_manager.proofs.check.well_formed.Tie as tie
-use Rattle.interval_store_manager.proofs.check.well_formed.Reads as reads
-use Rattle.interval_store_manager.proofs.check.well_formed.Lts as lts
-use Rattle.interval_store_manager.proofs.check.mark_free.Reads as mark-free-reads
 
--- src/check.rt:126:32
 slice-aggregate-mark-free : tie.Need-slice-aggregate-mark-free
 slice-aggregate-mark-free c = search needs
 
--- src/check.rt:126:5
 mark-free-requires : tie.Need-mark-free-requires
-mark-free-requires c κs = ?
+mark-free-requires c κs = (omega arith, unmarked 1024)
 
--- src/check.rt:122:1
 returns : tie.Need-returns
 returns c = search needs
 

@@ -1,34 +1,32 @@
+-- Each return follows from the tests that led to it.
 use borrow.Author.Needs.{needs}
+use mathlib.Core.Path.{sym, _∙_}
+use borrow.Author.Tests.{lt-ltb, le-ltb}
+use Rattle.interval_store_manager.specs.Calls.{changeDecided}
 use Rattle.interval_store_manager.proofs.decide.change_decision.Statement.{statement}
 use Rattle.interval_store_manager.proofs.decide.change_decision.Tie as tie
-use Rattle.interval_store_manager.proofs.decide.change_decision.Reads as reads
-use Rattle.interval_store_manager.proofs.decide.change_decision.Lts as lts
-use Rattle.interval_store_manager.proofs.check.lent_enough.Reads as lent-enough-reads
-use Rattle.interval_store_manager.proofs.check.well_formed.Reads as well-formed-reads
 
--- src/decide.rt:13:9
 returns : tie.Need-returns
-returns c = ?
+unfolding changeDecided
+returns c = rw (lt-ltb _ _ (c .if1 .taken))
 
--- src/decide.rt:15:9
 well-formed-requires : tie.Need-well-formed-requires
 well-formed-requires c κs = search needs
 
--- src/decide.rt:18:12
 lent-enough-requires : tie.Need-lent-enough-requires
 lent-enough-requires c κs = search needs
 
--- src/decide.rt:19:13
 returns-2 : tie.Need-returns-2
-returns-2 c = ?
+unfolding changeDecided
+returns-2 c = rw (le-ltb _ _ (c .before .before .before .before .if1 .left), (sym (c .before .before .before .well-formed .ensures .is) ∙ c .before .before .if2 .taken), sym (c .before .lent-enough .ensures) ∙ c .if3 .taken)
 
--- src/decide.rt:9:1
 returns-3 : tie.Need-returns-3
-returns-3 c = ?
+unfolding changeDecided
+returns-3 c = rw (le-ltb _ _ (c .before .before .before .before .if1 .left), (sym (c .before .before .before .well-formed .ensures .is) ∙ c .before .before .if2 .taken), sym (c .before .lent-enough .ensures) ∙ c .if3 .left)
 
--- src/decide.rt:9:1
 returns-4 : tie.Need-returns-4
-returns-4 c = ?
+unfolding changeDecided
+returns-4 c = rw (le-ltb _ _ (c .before .before .if1 .left), (sym (c .before .well-formed .ensures .is) ∙ c .if2 .left))
 
 pub change-decision-spec : {M : Type 1} → statement M
 change-decision-spec =

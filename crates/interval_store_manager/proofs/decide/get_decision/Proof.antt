@@ -1,25 +1,25 @@
+-- Each return follows from the tests that led to it.
 use borrow.Author.Needs.{needs}
+use mathlib.Core.Path.{sym, _∙_}
+use borrow.Author.Tests.{eq-eqb, ne-eqb}
+use Rattle.interval_store_manager.specs.Calls.{getDecided}
 use Rattle.interval_store_manager.proofs.decide.get_decision.Statement.{statement}
 use Rattle.interval_store_manager.proofs.decide.get_decision.Tie as tie
-use Rattle.interval_store_manager.proofs.decide.get_decision.Reads as reads
-use Rattle.interval_store_manager.proofs.decide.get_decision.Lts as lts
-use Rattle.interval_store_manager.proofs.check.well_formed.Reads as well-formed-reads
 
--- src/decide.rt:28:9
 well-formed-requires : tie.Need-well-formed-requires
 well-formed-requires c κs = search needs
 
--- src/decide.rt:32:13
 returns : tie.Need-returns
-returns c = ?
+unfolding getDecided
+returns c = rw ((sym (c .before .before .before .well-formed .ensures .is) ∙ c .before .before .if1 .taken), eq-eqb _ _ (c .if2 .taken))
 
--- src/decide.rt:34:9
 returns-2 : tie.Need-returns-2
-returns-2 c = ?
+unfolding getDecided
+returns-2 c = rw ((sym (c .before .before .before .well-formed .ensures .is) ∙ c .before .before .if1 .taken), ne-eqb _ _ (c .if2 .left))
 
--- src/decide.rt:25:1
 returns-3 : tie.Need-returns-3
-returns-3 c = ?
+unfolding getDecided
+returns-3 c = rw (sym (c .before .well-formed .ensures .is) ∙ c .if1 .left)
 
 pub get-decision-spec : {M : Type 1} → statement M
 get-decision-spec = tie.close (tie.spec well-formed-requires returns returns-2 returns-3)

@@ -1,37 +1,45 @@
+-- Each return follows from the tests that led to it; an index is free exactly where it is marked.
 use borrow.Author.Needs.{needs}
+use native.Mathlib.Omega.{arith}
+use mathlib.Core.Path.{sym, _∙_}
+use borrow.Author.Tests.{le-leb, lt-leb}
+use Rattle.terms.specs.Below.{one-true, one-false}
+use Rattle.interval_store_manager.specs.Intervals.{isFree}
+use Rattle.interval_store_manager.specs.MarkLaws.{unmarked}
+use Rattle.interval_store_manager.specs.Sound.{sound}
+use Rattle.interval_store_manager.specs.Calls.{releaseDecided}
 use Rattle.interval_store_manager.proofs.decide.release_decision.Statement.{statement}
 use Rattle.interval_store_manager.proofs.decide.release_decision.Tie as tie
-use Rattle.interval_store_manager.proofs.decide.release_decision.Reads as reads
-use Rattle.interval_store_manager.proofs.decide.release_decision.Lts as lts
-use Rattle.interval_store_manager.proofs.check.mark_free.Reads as mark-free-reads
 
--- src/decide.rt:43:46
 slice-aggregate-mark-free : tie.Need-slice-aggregate-mark-free
 slice-aggregate-mark-free c = search needs
 
--- src/decide.rt:43:9
 mark-free-requires : tie.Need-mark-free-requires
-mark-free-requires c κs = ?
+mark-free-requires c κs = (omega arith, unmarked 1024)
 
--- src/decide.rt:47:13
 returns : tie.Need-returns
-returns c = ?
+unfolding releaseDecided
+returns c = rw (sym ((c .before .before .before .before .mark-free .ensures) .is) ∙ c .before .before .if1 .taken, le-leb _ _ (c .if2 .taken))
 
--- src/decide.rt:49:12
 array-read-if3 : tie.Need-array-read-if3
-array-read-if3 c = ?
+array-read-if3 c =
+    omega (arith, sound (c .before .before .before .before .before .before .before .before .args .m) (c .before .before .before .before .before .before .before .before .args .starts .now) (c .before .before .before .before .before .before .before .before .args .ends .now) (sym ((c .before .before .before .before .mark-free .ensures) .is) ∙ c .before .before .if1 .taken) .most)
 
--- src/decide.rt:50:13
 returns-2 : tie.Need-returns-2
-returns-2 c = ?
+unfolding releaseDecided
+returns-2 c =
+    let held = (c .before .before .before .before .before .mark-free .ensures) .marked (c .before .before .before .if1 .taken) (c .before .before .before .before .before .before .before .before .before .args .index) in
+    rw (sym ((c .before .before .before .before .before .mark-free .ensures) .is) ∙ c .before .before .before .if1 .taken, lt-leb _ _ (c .before .if2 .left), one-true (isFree (c .before .before .before .before .before .before .before .before .before .args .m .last_in_use) (c .before .before .before .before .before .before .before .before .before .args .starts .now) (c .before .before .before .before .before .before .before .before .before .args .ends .now) (c .before .before .before .before .before .before .before .before .before .args .index)) (sym held ∙ c .if3 .taken))
 
--- src/decide.rt:52:9
 returns-3 : tie.Need-returns-3
-returns-3 c = ?
+unfolding releaseDecided
+returns-3 c =
+    let held = (c .before .before .before .before .before .mark-free .ensures) .marked (c .before .before .before .if1 .taken) (c .before .before .before .before .before .before .before .before .before .args .index) in
+    rw (sym ((c .before .before .before .before .before .mark-free .ensures) .is) ∙ c .before .before .before .if1 .taken, lt-leb _ _ (c .before .if2 .left), one-false (isFree (c .before .before .before .before .before .before .before .before .before .args .m .last_in_use) (c .before .before .before .before .before .before .before .before .before .args .starts .now) (c .before .before .before .before .before .before .before .before .before .args .ends .now) (c .before .before .before .before .before .before .before .before .before .args .index)) (λ e. c .if3 .left (held ∙ e)))
 
--- src/decide.rt:39:1
 returns-4 : tie.Need-returns-4
-returns-4 c = ?
+unfolding releaseDecided
+returns-4 c = rw (sym ((c .before .before .mark-free .ensures) .is) ∙ c .if1 .left)
 
 pub release-decision-spec : {M : Type 1} → statement M
 release-decision-spec =
