@@ -13,8 +13,8 @@ use lib.Ieee.Nearest.{div-same}
 use borrow.Author.Tests.{eq-eqb, not-true}
 use Rattle.float_bits.specs.Words.{floatOf, wordOf, nanWord, wordsEqual, plusZero, minusZero}
 
-abbrev pub Zero : ℕ → Type 0
-Zero w = (w ≡ plusZero) ⊎ (w ≡ minusZero)
+abbrev pub ZeroWord : ℕ → Type 0
+ZeroWord w = (w ≡ plusZero) ⊎ (w ≡ minusZero)
 
 -- ---- the word of a finite float: the sign's bit, and the bits of its magnitude in units of the smallest float
 
@@ -32,7 +32,7 @@ same-magnitude m e n d h =
 no-magnitude : (m : ℕ) (e d : ℤ) → m * up e * down d ≡ 0 → magnitude m e ≡ 0
 no-magnitude m e d h = same-magnitude m e 0 d (h ∙ simp zero-mul) ∙ same-magnitude 0 d 0 (pos 0) (simp zero-mul)
 
-signed-zero : (s : Bool) → Zero (signed s 0)
+signed-zero : (s : Bool) → ZeroWord (signed s 0)
 unfolding size
 signed-zero true = inr refl
 signed-zero false = inl refl
@@ -43,12 +43,12 @@ same-sign : (s : Bool) (m : ℕ) (e : ℤ) (n : ℕ) (d : ℤ) → m * up e * do
 unfolding toBits
 same-sign s m e n d h = ap (signed s) (same-magnitude m e n d h)
 
-zero-magnitude : (s : Bool) (m : ℕ) (e d : ℤ) → m * up e * down d ≡ 0 → Zero (wordOf (fin s m e))
+zero-magnitude : (s : Bool) (m : ℕ) (e d : ℤ) → m * up e * down d ≡ 0 → ZeroWord (wordOf (fin s m e))
 unfolding toBits
-zero-magnitude s m e d h = subst (λ (n : ℕ). Zero (signed s n)) (sym (no-magnitude m e d h)) (signed-zero s)
+zero-magnitude s m e d h = subst (λ (n : ℕ). ZeroWord (signed s n)) (sym (no-magnitude m e d h)) (signed-zero s)
 
 abbrev Alike : Float → Float → Type 0
-Alike x y = T (not (isNan x)) × T (not (isNan y)) × ((wordOf x ≡ wordOf y) ⊎ (Zero (wordOf x) × Zero (wordOf y)))
+Alike x y = T (not (isNan x)) × T (not (isNan y)) × ((wordOf x ≡ wordOf y) ⊎ (ZeroWord (wordOf x) × ZeroWord (wordOf y)))
 
 module _ (m : ℕ) (e : ℤ) (n : ℕ) (d : ℤ) where
   abbrev here : ℕ
@@ -85,20 +85,20 @@ alike (fin false m e) (fin true n d) h = level-zero m e n d false true h
 alike (fin false m e) (fin false n d) h = level-same m e n d false h
 
 -- a float equals itself unless it is a NaN
-pub equals-itself : (x : Float) → eq x x ≡ not (isNan x)
+pub float-equals-itself : (x : Float) → eq x x ≡ not (isNan x)
 unfolding eq isNan
-equals-itself nan = refl
-equals-itself (inf true) = refl
-equals-itself (inf false) = refl
-equals-itself (fin true m e) = ap (λ (t : Bool). t && true) (eq-eqb (m * up e * down e) (m * up e * down e) refl)
-equals-itself (fin false m e) = ap (λ (t : Bool). t && true) (eq-eqb (m * up e * down e) (m * up e * down e) refl)
+float-equals-itself nan = refl
+float-equals-itself (inf true) = refl
+float-equals-itself (inf false) = refl
+float-equals-itself (fin true m e) = ap (λ (t : Bool). t && true) (eq-eqb (m * up e * down e) (m * up e * down e) refl)
+float-equals-itself (fin false m e) = ap (λ (t : Bool). t && true) (eq-eqb (m * up e * down e) (m * up e * down e) refl)
 
 -- ---- the laws
 
 -- a word equals itself unless it is a NaN's
-pub equal-to-itself : (a : ℕ) → wordsEqual a a ≡ not (nanWord a)
+pub word-equals-itself : (a : ℕ) → wordsEqual a a ≡ not (nanWord a)
 unfolding wordsEqual
-equal-to-itself a = equals-itself (floatOf a) ∙ ap not (sym (nanBits-is binary32 a))
+word-equals-itself a = float-equals-itself (floatOf a) ∙ ap not (sym (nanBits-is binary32 a))
 
 zeros : (s t : Bool) → wordsEqual (cond s minusZero plusZero) (cond t minusZero plusZero) ≡ true
 unfolding wordsEqual eq ofBits
@@ -107,23 +107,23 @@ zeros true false = refl
 zeros false true = refl
 zeros false false = refl
 
-pub zeros-equal : {a b : ℕ} → Zero a → Zero b → wordsEqual a b ≡ true
+pub zeros-equal : {a b : ℕ} → ZeroWord a → ZeroWord b → wordsEqual a b ≡ true
 zeros-equal (inl p) (inl q) = rw (p, q) (zeros false false)
 zeros-equal (inl p) (inr q) = rw (p, q) (zeros false true)
 zeros-equal (inr p) (inl q) = rw (p, q) (zeros true false)
 zeros-equal (inr p) (inr q) = rw (p, q) (zeros true true)
 
 -- document 01, Lists: copy gives the row, and 'a zero may take the other sign'
-pub same-or-zeros : (a b : ℕ) → a < 2 ^ 32 → b < 2 ^ 32 → wordsEqual a b ≡ true → (a ≡ b) ⊎ (Zero a × Zero b)
+pub same-or-zeros : (a b : ℕ) → a < 2 ^ 32 → b < 2 ^ 32 → wordsEqual a b ≡ true → (a ≡ b) ⊎ (ZeroWord a × ZeroWord b)
 unfolding wordsEqual
 same-or-zeros a b h k e =
     let x = alike (floatOf a) (floatOf b) (subst T (sym e) tt) in
     let p : wordOf (floatOf a) ≡ a = toBits-ofBits binary32 a h (x .0) in
     let q : wordOf (floatOf b) ≡ b = toBits-ofBits binary32 b k (x .1) in
-    ⊎-map (λ s. sym p ∙ s ∙ q) (λ z. (subst Zero p (z .0), subst Zero q (z .1))) (x .2)
+    ⊎-map (λ s. sym p ∙ s ∙ q) (λ z. (subst ZeroWord p (z .0), subst ZeroWord q (z .1))) (x .2)
 
-pub equal-exactly : (a b : ℕ) → a < 2 ^ 32 → b < 2 ^ 32 → (wordsEqual a b ≡ true) ↔ (((a ≡ b) × (nanWord a ≡ false)) ⊎ (Zero a × Zero b))
-equal-exactly a b h k = (
-  λ e. ⊎-map (λ s. (s, not-true (nanWord a) (sym (equal-to-itself a) ∙ ap (wordsEqual a) s ∙ e))) (λ z. z) (same-or-zeros a b h k e),
-  ⊎-elim (λ s. ap (wordsEqual a) (sym (s .0)) ∙ equal-to-itself a ∙ ap not (s .1)) (λ z. zeros-equal (z .0) (z .1)),
+pub words-equal-exactly : (a b : ℕ) → a < 2 ^ 32 → b < 2 ^ 32 → (wordsEqual a b ≡ true) ↔ (((a ≡ b) × (nanWord a ≡ false)) ⊎ (ZeroWord a × ZeroWord b))
+words-equal-exactly a b h k = (
+  λ e. ⊎-map (λ s. (s, not-true (nanWord a) (sym (word-equals-itself a) ∙ ap (wordsEqual a) s ∙ e))) (λ z. z) (same-or-zeros a b h k e),
+  ⊎-elim (λ s. ap (wordsEqual a) (sym (s .0)) ∙ word-equals-itself a ∙ ap not (s .1)) (λ z. zeros-equal (z .0) (z .1)),
 )

@@ -1,9 +1,11 @@
 -- Rows of words: equality, and what a scaled row adds to a row of sums.
-use Prim.Native.Nat.{ℕ}
-use mathlib.Core.Bool.{Bool}
+use Prim.Native.Nat.{ℕ, _^_, _≤_}
+use mathlib.Core.Bool.{Bool, false}
 use mathlib.Core.List.{List, [], _∷_}
 use lib.IntN.{pos}
 use lib.Ieee.{Float, binary32, add, mul, ofInt}
+use lib.Ieee.Back.{round-whole}
+use lib.Ieee.Exact.{HasValue}
 use Rattle.terms.specs.Rows.{allEqual}
 use Rattle.float_bits.specs.Words.{floatOf, wordsEqual}
 
@@ -23,3 +25,8 @@ addProduct weight sum w = add binary32 sum (mul binary32 (floatOf w) (ofInt bina
 
 abbrev pub addScaled : ℕ → List Float → List ℕ → List Float
 addScaled weight sums row = zipInto (addProduct weight) sums row
+
+-- 'converted, nothing lost': the float of a weight is the weight itself
+pub weight-exact : (weight : ℕ) → weight ≤ 2 ^ 24 → HasValue (ofInt binary32 (pos weight)) false weight 1
+unfolding ofInt
+weight-exact weight h = round-whole binary32 false weight h

@@ -5,16 +5,16 @@
 // of a word where there is something to compute.
 use terms::FloatBits;
 ghost use mathlib.Core.Path.{_≡_};
-ghost use Prim.Native.Nat.{_≤_, _^_};
+ghost use Prim.Native.Nat.{_<_, _≤_, _^_};
 ghost use lib.ListN.{length};
 ghost use Rattle.float_bits.specs.Words.{floatOf, wordOf, nanWord, wordsEqual};
 ghost use Rattle.float_bits.specs.Rows.{rowsEqual, addScaled};
 
 // The weight of the sign's bit: below it stand the exponent and the digits.
-const SIGN: u32 = 0x8000_0000;
+const SIGN: FloatBits = 0x8000_0000;
 
 // An infinity's bits below the sign. A NaN's are above.
-const INFINITY: u32 = 0x7f80_0000;
+const INFINITY: FloatBits = 0x7f80_0000;
 
 // The word that stands for a NaN that was computed.
 const NAN: FloatBits = 0x7fc0_0000;
@@ -68,19 +68,32 @@ fn block_equal(a: &[FloatBits], b: &[FloatBits]) -> bool
     equal
 }
 
+// Where the block that starts at `from` ends: after a whole block, or with the row.
+fn block_end(from: usize, length: usize) -> usize
+    requires { ⌜ from < length ⌝ }
+    ensures { λ r. ⌜ (from < r) × (r ≤ length) ⌝ }
+{
+    if length - from > BLOCK {
+        from + BLOCK
+    } else {
+        length
+    }
+}
+
+// Float `==` at every place of two rows.
 pub fn rows_equal(a: &[FloatBits], b: &[FloatBits]) -> bool
     requires { ⌜ length (now a) ≡ length (now b) ⌝ }
     ensures { λ r. ⌜ r ≡ rowsEqual (now (a .entry)) (now (b .entry)) ⌝ }
 {
     let mut i = 0;
-    while BLOCK <= a.len() - i {
-        let end = i + BLOCK;
+    while i < a.len() {
+        let end = block_end(i, a.len());
         if !block_equal(&a[i..end], &b[i..end]) {
             return false;
         }
         i = end;
     }
-    block_equal(&a[i..], &b[i..])
+    true
 }
 
 // To each sum its float of the row times the weight: the product is rounded, then the sum.

@@ -1,15 +1,15 @@
 -- The loop's invariant: the sums passed, and what adding the rest of the row makes of the others, are what is to come out.
-use Prim.Native.Nat.{ℕ, _+_, _-_, _≤_, _<_}
+use Prim.Native.Nat.{ℕ, _+_, _-_, _≤_}
 use native.Mathlib.Omega.{arith}
 use mathlib.Core.Path.{_≡_, sym, ap, _∙_}
 use lib.IntN.{pos}
 use lib.Dec.{le→leb}
-use lib.ListN.{length, getD, set, length-set}
+use lib.ListN.{length, getD, set}
 use lib.Ieee.{Float, nan, binary32, add, mul, ofInt, inFloat}
 use borrow.Author.Needs.{needs}
 use Rattle.float_bits.specs.Words.{floatOf}
 use Rattle.float_bits.specs.Rows.{addProduct, addScaled}
-use Rattle.float_bits.proofs.SumLaws.{rest, taken-turn, all-taken}
+use Rattle.float_bits.proofs.ZipInto.{rest, taken-turn, all-taken}
 use Rattle.float_bits.proofs.add_scaled.Statement.{statement}
 use Rattle.float_bits.proofs.add_scaled.Tie as tie
 

@@ -1,5 +1,5 @@
 -- The loop's invariant: the rows are equal where the elements passed are, and those that are left.
-use Prim.Native.Nat.{ℕ, _+_, _-_, _≤_, _<_}
+use Prim.Native.Nat.{_+_, _-_, _≤_}
 use native.Mathlib.Omega.{arith}
 use mathlib.Core.Path.{_≡_, sym, ap, _∙_}
 use mathlib.Core.Bool.{Bool, _&&_, and-assoc, and-true}
@@ -7,7 +7,7 @@ use lib.ListN.{length, drop}
 use borrow.Author.Needs.{needs}
 use Rattle.float_bits.specs.Words.{wordsEqual}
 use Rattle.float_bits.specs.Rows.{rowsEqual}
-use Rattle.float_bits.proofs.RowLaws.{element-turn, none-left}
+use Rattle.float_bits.proofs.AllEqual.{element-turn, none-left}
 use Rattle.float_bits.proofs.block_equal.Statement.{statement}
 use Rattle.float_bits.proofs.block_equal.Tie as tie
 

@@ -5,7 +5,7 @@ use lib.Dec.{T}
 use lib.Ieee.{Float, nan, inf, fin, binary32, div, isNan, ofBits}
 use lib.Ieee.Bits.{nanBits-is}
 use borrow.Author.Needs.{needs}
-use Rattle.float_bits.specs.Words.{floatOf, nanWord, plusZero}
+use Rattle.float_bits.specs.Words.{floatOf, plusZero}
 use Rattle.float_bits.proofs.float_of_word.Statement.{statement}
 use Rattle.float_bits.proofs.float_of_word.Tie as tie
 

@@ -1,16 +1,14 @@
 -- The loop's invariant: the blocks passed are equal, so the rows are where what is left is.
-use Prim.Native.Nat.{ℕ, _+_, _-_, _≤_, _<_}
+use Prim.Native.Nat.{_-_, _≤_}
 use native.Mathlib.Omega.{arith}
-use native.Mathlib.Nat.{le-of-eq}
 use mathlib.Core.Path.{_≡_, sym, _∙_}
 use mathlib.Core.Bool.{true, false}
-use lib.ListN.{length, take, drop, length-drop, length-take}
-use lib.Seq.{take-all}
+use lib.ListN.{length, drop, length-drop, length-take}
 use borrow.Author.Needs.{needs}
 use borrow.Author.Tests.{not-true, not-false}
 use Rattle.float_bits.specs.Words.{wordsEqual}
 use Rattle.float_bits.specs.Rows.{rowsEqual}
-use Rattle.float_bits.proofs.RowLaws.{block-turn}
+use Rattle.float_bits.proofs.AllEqual.{block-turn, none-left}
 use Rattle.float_bits.proofs.rows_equal.Statement.{statement}
 use Rattle.float_bits.proofs.rows_equal.Tie as tie
 
@@ -23,11 +21,8 @@ abbrev μ-loop : tie.MeasureT-loop
 loop-holds : tie.Need-loop-holds Inv-loop μ-loop
 loop-holds c = search needs
 
-sub-loop : tie.Need-sub-loop Inv-loop μ-loop
-sub-loop c = search needs
-
-add-end : tie.Need-add-end Inv-loop μ-loop
-add-end c = search needs
+block-end-requires : tie.Need-block-end-requires Inv-loop μ-loop
+block-end-requires c κs = search needs
 
 mul-block-equal : tie.Need-mul-block-equal Inv-loop μ-loop
 mul-block-equal c = search needs
@@ -54,61 +49,33 @@ part-block-equal-end-2 : tie.Need-part-block-equal-end-2 Inv-loop μ-loop
 part-block-equal-end-2 c = search needs
 
 block-equal-requires : tie.Need-block-equal-requires Inv-loop μ-loop
-block-equal-requires c κs = simp (length-take, length-drop, c .before .before .before .before .before .before .pre)
+block-equal-requires c κs = simp (length-take, length-drop, c .before .before .before .before .before .before .before .pre)
 
 returns : tie.Need-returns Inv-loop μ-loop
 returns c =
-    let at = c .before .before .before .before .before in
+    let at = c .before .before .before .before .before .before in
     let a = at .before .before .before .args .a .now in
     let b = at .before .before .before .args .b .now in
-    let i = at .loop .i in
-    sym (block-turn wordsEqual a b i (i + 16) false (omega arith) (at .loop .inv .1) (sym (not-true (c .before .block-equal .result) (c .if1 .taken)) ∙ c .before .block-equal .ensures))
+    let end = c .before .before .before .before .block-end .result in
+    sym (block-turn wordsEqual a b (at .loop .i) end false (omega arith) (at .loop .inv .1) (sym (not-true (c .before .block-equal .result) (c .if1 .taken)) ∙ c .before .block-equal .ensures))
 
 loop-less : tie.Need-loop-less Inv-loop μ-loop
 loop-less c = search needs
 
 loop-again : tie.Need-loop-again Inv-loop μ-loop
 loop-again c =
-    let at = c .before .before .before .before .before in
+    let at = c .before .before .before .before .before .before in
     let a = at .before .before .before .args .a .now in
     let b = at .before .before .before .args .b .now in
-    let i = at .loop .i in
-    (search needs, block-turn wordsEqual a b i (i + 16) true (omega arith) (at .loop .inv .1) (sym (not-false (c .before .block-equal .result) (c .if1 .left)) ∙ c .before .block-equal .ensures))
-
-mul-block-equal-3 : tie.Need-mul-block-equal-3 Inv-loop μ-loop
-mul-block-equal-3 c = search needs
-
-sub-block-equal-3 : tie.Need-sub-block-equal-3 Inv-loop μ-loop
-sub-block-equal-3 c = search needs
-
-part-block-equal-start-3 : tie.Need-part-block-equal-start-3 Inv-loop μ-loop
-part-block-equal-start-3 c = search needs
-
-part-block-equal-end-3 : tie.Need-part-block-equal-end-3 Inv-loop μ-loop
-part-block-equal-end-3 c = search needs
-
-mul-block-equal-4 : tie.Need-mul-block-equal-4 Inv-loop μ-loop
-mul-block-equal-4 c = search needs
-
-sub-block-equal-4 : tie.Need-sub-block-equal-4 Inv-loop μ-loop
-sub-block-equal-4 c = search needs
-
-part-block-equal-start-4 : tie.Need-part-block-equal-start-4 Inv-loop μ-loop
-part-block-equal-start-4 c = search needs
-
-part-block-equal-end-4 : tie.Need-part-block-equal-end-4 Inv-loop μ-loop
-part-block-equal-end-4 c = search needs
-
-block-equal-requires-2 : tie.Need-block-equal-requires-2 Inv-loop μ-loop
-block-equal-requires-2 c κs = simp (length-take, length-drop, c .before .before .before .before .before .before .pre)
+    let end = c .before .before .before .before .block-end .result in
+    (search needs, block-turn wordsEqual a b (at .loop .i) end true (omega arith) (at .loop .inv .1) (sym (not-false (c .before .block-equal .result) (c .if1 .left)) ∙ c .before .block-equal .ensures))
 
 returns-2 : tie.Need-returns-2 Inv-loop μ-loop
 returns-2 c =
-    let at = c .before .before .before .before in
+    let at = c .before in
     let a = at .before .before .before .args .a .now in
     let b = at .before .before .before .args .b .now in
-    let i = at .loop .i in
-    c .block-equal2 .ensures ∙ rw (take-all (length a - i) (drop i a) (le-of-eq (length-drop i a)), take-all (length b - i) (drop i b) (le-of-eq (length-drop i b))) (sym (at .loop .inv .1))
+    sym (at .loop .inv .1 ∙ none-left wordsEqual a b (at .loop .i) (omega arith) (omega arith))
 
 pub rows-equal-spec : {M : Type 1} → statement M
 rows-equal-spec =
@@ -117,8 +84,7 @@ rows-equal-spec =
     Inv-loop
     μ-loop
     loop-holds
-    sub-loop
-    add-end
+    block-end-requires
     mul-block-equal
     sub-block-equal
     part-block-equal-start
@@ -131,13 +97,4 @@ rows-equal-spec =
     returns
     loop-less
     loop-again
-    mul-block-equal-3
-    sub-block-equal-3
-    part-block-equal-start-3
-    part-block-equal-end-3
-    mul-block-equal-4
-    sub-block-equal-4
-    part-block-equal-start-4
-    part-block-equal-end-4
-    block-equal-requires-2
     returns-2)

@@ -6,13 +6,13 @@ use lib.Ieee.{Float, ne, isNan, toBits}
 use lib.Ieee.Compare.{differs-from-itself}
 use borrow.Author.Needs.{needs}
 use Rattle.float_bits.specs.Words.{wordOf}
-use Rattle.float_bits.specs.Equality.{equals-itself}
+use Rattle.float_bits.specs.Equality.{float-equals-itself}
 use Rattle.float_bits.proofs.word_of_float.Statement.{statement}
 use Rattle.float_bits.proofs.word_of_float.Tie as tie
 
 differs : (x : Float) → ne x x ≡ isNan x
 unfolding ne
-differs x = ap not (equals-itself x) ∙ Bool·not-not (isNan x)
+differs x = ap not (float-equals-itself x) ∙ Bool·not-not (isNan x)
 
 float-to-bits-result : tie.Need-float-to-bits-result
 float-to-bits-result c = subst (λ (b : Bool). T (not b)) (sym (c .if1 .left) ∙ differs (c .before .args .x)) tt

@@ -9,7 +9,7 @@ use lib.Dec.{eqb}
 use borrow.Author.Needs.{needs}
 use borrow.Author.Tests.{eqb-true}
 use Rattle.float_bits.specs.Words.{wordsEqual}
-use Rattle.float_bits.specs.Equality.{Zero, equal-to-itself, zeros-equal, same-or-zeros}
+use Rattle.float_bits.specs.Equality.{ZeroWord, word-equals-itself, zeros-equal, same-or-zeros}
 use Rattle.float_bits.proofs.words_equal.Statement.{statement}
 use Rattle.float_bits.proofs.words_equal.Tie as tie
 
@@ -22,10 +22,10 @@ both : (p q : Bool) → (p && q) ≡ true → (p ≡ true) × (q ≡ true)
 both true q e = (refl, e)
 both false q e = absurd (false≢true e)
 
-unsigned : (w : ℕ) → Zero w → eqb (w % 2147483648) 0 ≡ true
+unsigned : (w : ℕ) → ZeroWord w → eqb (w % 2147483648) 0 ≡ true
 unsigned w z = ⊎-elim (λ e. rw e) (λ e. rw e) z
 
-zero-of : (w : ℕ) → w < 2 ^ 32 → eqb (w % 2147483648) 0 ≡ true → Zero w
+zero-of : (w : ℕ) → w < 2 ^ 32 → eqb (w % 2147483648) 0 ≡ true → ZeroWord w
 zero-of w h t =
     let r : w % 2147483648 ≡ 0 = eqb-true (w % 2147483648) 0 t in
     ⊎-elim (λ e. inl e) (λ p. inr (omega arith)) (eq-zero-or-pos w)
@@ -46,7 +46,7 @@ is-nan-word-requires c κs = search needs
 returns : tie.Need-returns
 returns c =
     let a = c .before .before .args .a in
-    ap not (c .is-nan-word .ensures) ∙ sym (equal-to-itself a) ∙ ap (wordsEqual a) (c .before .if1 .taken)
+    ap not (c .is-nan-word .ensures) ∙ sym (word-equals-itself a) ∙ ap (wordsEqual a) (c .before .if1 .taken)
 
 returns-2 : tie.Need-returns-2
 returns-2 c = others (c .before .args .a) (c .before .args .b) (omega arith) (omega arith) (c .if1 .left)
