@@ -1,15 +1,14 @@
 -- From how many intervals hold each index to which indices are free, and how many.
-use Prim.Native.Nat.{ℕ, zero, suc, _+_, _-_, _≤_, _<_}
+use Prim.Native.Nat.{ℕ, _+_, _-_, _≤_, _<_}
 use native.Mathlib.Omega.{arith}
 use mathlib.Core.List.{List}
 use mathlib.Core.Bool.{Bool, true, false, not, _&&_, _||_, and-true, and-false, or-true, or-false}
 use mathlib.Core.Path.{_≡_, refl, sym, _∙_, ap}
-use lib.ListN.{length, getD}
-use lib.Dec.{leb, ltb, eqb}
+use lib.Dec.{ltb, eqb}
 use native.Mathlib.Decide.{decLt}
 use borrow.Author.Tests.{le-ltb, lt-ltb, ltb-false, ltb-true, eq-eqb, ne-eqb}
 use Rattle.terms.specs.Below.{one, sumBelow, sum-same, sum-add, sum-ones}
-use Rattle.interval_store_manager.specs.Intervals.{inside, holders, isFree, freeNumber}
+use Rattle.interval_store_manager.specs.Intervals.{inside, holders, isFree}
 use Rattle.interval_store_manager.specs.IntervalLaws.{inside-single, interval-size}
 use Rattle.interval_store_manager.specs.StackLaws.{sizes, entries-le-sizes}
 use Rattle.interval_store_manager.specs.Sound.{Sound}
@@ -56,12 +55,12 @@ sizes-one c i n n′ ss es ss′ es′ h e = sum-one c i (holders n ss es) (hold
 pub single-more : (f : ℕ → ℕ) (i k : ℕ) → f i ≡ 0 → f k ≤ 1 → f k + one (eqb k i) ≤ 1
 single-more f i k z h =
     elim (decLt k i) [
-      yes l ↦ rw (ne-eqb k i (λ e. omega arith)) (omega arith)
-    | no g ↦
-      elim (decLt i k) [
-        yes l ↦ rw (ne-eqb k i (λ e. omega arith)) (omega arith)
-      | no d ↦ let e : k ≡ i = omega arith in rw (eq-eqb k i e, e, z) (omega arith)
-      ]
+      | yes l ↦ rw (ne-eqb k i (λ e. omega arith)) (omega arith)
+      | no g ↦
+          elim (decLt i k) [
+            | yes l ↦ rw (ne-eqb k i (λ e. omega arith)) (omega arith)
+            | no d ↦ let e : k ≡ i = omega arith in rw (eq-eqb k i e, e, z) (omega arith)
+          ]
     ]
 
 -- a stack that leaves an index below the capacity out has fewer entries in use than the capacity
