@@ -9,9 +9,12 @@ fn main() {
         None => PathBuf::from(env::var_os("CARGO_MANIFEST_DIR").unwrap()).join("../../../shared/docs/src"),
     };
     let sources = folder.join("crates/rcflib/src");
-    let sources = sources
-        .canonicalize()
-        .unwrap_or_else(|e| panic!("the Rust's files are not at {}: {e}; set RUST_SOURCES", sources.display()));
+    let sources = sources.canonicalize().unwrap_or_else(|e| {
+        panic!(
+            "the Rust's files are not at {}: {e}; set RUST_SOURCES",
+            sources.display()
+        )
+    });
     println!("cargo:rerun-if-changed={}", sources.display());
     println!("cargo:rustc-env=RCFLIB={}", sources.display());
 }

@@ -33,6 +33,12 @@ pub struct Made {
     pub answer: usize,
 }
 
+// The stack's top after a call: 0 and 0 where the stack is empty.
+pub struct Top {
+    pub start: usize,
+    pub end: usize,
+}
+
 fn refused(manager: IntervalStoreManager, why: Refusal) -> Made {
     Made {
         manager,
@@ -109,4 +115,24 @@ pub fn make(
             answer: 0,
         },
     }
+}
+
+fn wide(x: u16) -> usize {
+    x as usize
+}
+
+pub fn top_of(m: IntervalStoreManager, starts: &[u16], ends: &[u16]) -> Top {
+    let n = m.last_in_use;
+    if 0 < n {
+        let top = n - 1;
+        if top < starts.len() {
+            if top < ends.len() {
+                return Top {
+                    start: wide(starts[top]),
+                    end: wide(ends[top]),
+                };
+            }
+        }
+    }
+    Top { start: 0, end: 0 }
 }

@@ -8,7 +8,9 @@ mod text;
 
 use interval_store_manager::IntervalStoreManager;
 use made::Made;
+use made::Top;
 use made::make;
+use made::top_of;
 use text::Line;
 use text::count_lines;
 use text::line_at;
@@ -17,32 +19,6 @@ use text::line_at;
 struct Step {
     manager: IntervalStoreManager,
     next: usize,
-}
-
-// The stack's top after a call.
-struct Top {
-    start: usize,
-    end: usize,
-}
-
-fn wide(x: u16) -> usize {
-    x as usize
-}
-
-fn top_of(m: IntervalStoreManager, starts: &[u16], ends: &[u16]) -> Top {
-    let n = m.last_in_use;
-    if 0 < n {
-        let top = n - 1;
-        if top < starts.len() {
-            if top < ends.len() {
-                return Top {
-                    start: wide(starts[top]),
-                    end: wide(ends[top]),
-                };
-            }
-        }
-    }
-    Top { start: 0, end: 0 }
 }
 
 fn agrees(line: Line, made: Made, top: Top) -> bool {
@@ -77,7 +53,7 @@ fn replay_line(
     let agreed = agrees(line, made, top);
     tally::count(tally, line.call, agreed);
     if !agreed {
-        tally::print_difference(step, line, made);
+        tally::print_difference(step, line, made, top);
     }
     Step {
         manager,

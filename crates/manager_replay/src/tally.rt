@@ -8,6 +8,7 @@ use crate::made::IS_EMPTY;
 use crate::made::Made;
 use crate::made::NEW;
 use crate::made::RELEASE;
+use crate::made::Top;
 use crate::made::USED;
 use crate::text::Line;
 use libc::STDOUT_FILENO;
@@ -52,19 +53,29 @@ fn print_call(call: usize) {
     }
 }
 
-pub fn print_difference(step: usize, line: Line, made: Made) {
+fn print_seen(value: usize, answer: usize, in_use: usize, start: usize, end: usize) {
+    print_number(b"value ", value);
+    print_number(b", answer ", answer);
+    print_number(b", in use ", in_use);
+    print_number(b", top ", start);
+    print_number(b" to ", end);
+}
+
+pub fn print_difference(step: usize, line: Line, made: Made, top: Top) {
     print_number(b"step ", step);
     print(b" differs: ");
     print_call(line.call);
     print_number(b" ", line.argument);
-    print_number(b": value ", made.value);
-    print_number(b", answer ", made.answer);
-    print_number(b", in use ", made.manager.last_in_use);
-    print_number(b"; recorded value ", line.value);
-    print_number(b", answer ", line.answer);
-    print_number(b", in use ", line.in_use);
-    print_number(b", top ", line.start);
-    print_number(b" to ", line.end);
+    print(b": ");
+    print_seen(
+        made.value,
+        made.answer,
+        made.manager.last_in_use,
+        top.start,
+        top.end,
+    );
+    print(b"; recorded: ");
+    print_seen(line.value, line.answer, line.in_use, line.start, line.end);
     print(b"\n");
 }
 

@@ -24,7 +24,7 @@ impl Recorder {
         self.lines += &format!("{call} {argument} {value} {answer} {n} {start} {end}\n");
     }
 
-    fn new(&mut self, capacity: usize) {
+    fn open(&mut self, capacity: usize) {
         self.rust = IntervalStoreManager::new(capacity);
         self.in_use.clear();
         self.line(0, capacity, 0, 0);
@@ -85,7 +85,7 @@ fn main() {
         lines: String::new(),
     };
     for capacity in CAPACITIES {
-        recorder.new(capacity);
+        recorder.open(capacity);
         for step in 1..CALLS_EACH {
             recorder.any(step, &mut random);
         }

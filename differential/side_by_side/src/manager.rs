@@ -112,7 +112,8 @@ fn made_by_library(call: Call, m: &mut Memory) -> Returned {
 }
 
 fn told(call: Call, before: &Memory, left: (&str, Returned, &Memory), right: (&str, Returned, &Memory)) -> String {
-    let side = |(name, returned, after): (&str, Returned, &Memory)| format!("{name}: {returned:?}\n    leaves {after:?}\n");
+    let side =
+        |(name, returned, after): (&str, Returned, &Memory)| format!("{name}: {returned:?}\n    leaves {after:?}\n");
     format!("{call:?}\n    on {before:?}\n{}{}", side(left), side(right))
 }
 
@@ -123,7 +124,12 @@ fn held_to_model(call: Call, memory: &mut Memory) -> Result<Returned, String> {
     let owed = model::made(call, &mut expected);
     let got = made_by_library(call, memory);
     if got != owed || *memory != expected {
-        return Err(told(call, &before, ("library", got, memory), ("document 01", owed, &expected)));
+        return Err(told(
+            call,
+            &before,
+            ("library", got, memory),
+            ("document 01", owed, &expected),
+        ));
     }
     if got.value != 0 && (*memory != before || got.answer != UNTOUCHED) {
         return Err(format!("a refused call wrote: {call:?}\n    on {before:?}"));
@@ -138,7 +144,10 @@ pub fn run() -> Result<(), String> {
     refused::each_clause_broken(&mut beyond)?;
     refused::rubbish(&mut beyond)?;
     beyond.close()?;
-    let mut short = Coverage::new("manager, every list of up to six calls at capacities 1 to 4", &ON_THE_DOMAIN);
+    let mut short = Coverage::new(
+        "manager, every list of up to six calls at capacities 1 to 4",
+        &ON_THE_DOMAIN,
+    );
     in_use::every_short_list(&mut short)?;
     short.close()?;
     let mut random = Coverage::new("manager, random lists at capacities 1 to 1,024", &ON_THE_DOMAIN);

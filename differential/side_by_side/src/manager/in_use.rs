@@ -47,7 +47,12 @@ fn rust_answer(rust: &mut IntervalStoreManager<usize>, call: Call) -> Returned {
     }
 }
 
-fn meet_call(call: Call, before: &IntervalStoreManager<usize>, after: &IntervalStoreManager<usize>, coverage: &mut Coverage) {
+fn meet_call(
+    call: Call,
+    before: &IntervalStoreManager<usize>,
+    after: &IntervalStoreManager<usize>,
+    coverage: &mut Coverage,
+) {
     let (was, is) = (before.last_in_use(), after.last_in_use());
     let pushed = is > was;
     if pushed && before.starts().len() > was {
@@ -113,7 +118,11 @@ impl Pair {
         }
         let used = held_to_model(Call::Used, &mut self.memory)?;
         if used.answer != self.rust.used() as u64 {
-            return Err(format!("after {call:?} used is {used:?}, in the Rust {}\n    {:?}", self.rust.used(), self.memory));
+            return Err(format!(
+                "after {call:?} used is {used:?}, in the Rust {}\n    {:?}",
+                self.rust.used(),
+                self.memory
+            ));
         }
         match call {
             Call::Get if got.value == 0 => self.in_use.push(got.answer as usize),
@@ -131,7 +140,12 @@ impl Pair {
             let n = rust.len();
             ours[..n].iter().zip(rust).all(|(a, b)| *a as usize == *b) && ours[n..] == lent[n..]
         };
-        self.memory.words == [self.rust.get_capacity() as u64, self.rust.last_in_use() as u64, self.lent.words[2]]
+        self.memory.words
+            == [
+                self.rust.get_capacity() as u64,
+                self.rust.last_in_use() as u64,
+                self.lent.words[2],
+            ]
             && same(&self.memory.starts, &self.lent.starts, self.rust.starts())
             && same(&self.memory.ends, &self.lent.ends, self.rust.ends())
     }
@@ -174,7 +188,11 @@ enum Mood {
 fn release_near(pair: &Pair, last: usize, by: isize, random: &mut Random) -> Call {
     let next = last.wrapping_add_signed(by);
     let near = pair.in_use.contains(&next);
-    Call::Release(if near { next } else { pair.in_use[random.below(pair.in_use.len())] })
+    Call::Release(if near {
+        next
+    } else {
+        pair.in_use[random.below(pair.in_use.len())]
+    })
 }
 
 fn random_call(pair: &Pair, mood: Mood, last: usize, random: &mut Random) -> Call {

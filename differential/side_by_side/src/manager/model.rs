@@ -35,15 +35,34 @@ pub fn broken(m: &Memory) -> Vec<&'static str> {
     let clauses = [
         ("ill-formed: capacity 0", capacity == 0),
         ("ill-formed: capacity above 1024", capacity > LARGEST_CAPACITY),
-        ("ill-formed: starts shorter than the capacity", (m.starts.len() as u64) < capacity),
-        ("ill-formed: ends shorter than the capacity", (m.ends.len() as u64) < capacity),
-        ("ill-formed: starts shorter than the stack", (m.starts.len() as u64) < in_use),
-        ("ill-formed: ends shorter than the stack", (m.ends.len() as u64) < in_use),
+        (
+            "ill-formed: starts shorter than the capacity",
+            (m.starts.len() as u64) < capacity,
+        ),
+        (
+            "ill-formed: ends shorter than the capacity",
+            (m.ends.len() as u64) < capacity,
+        ),
+        (
+            "ill-formed: starts shorter than the stack",
+            (m.starts.len() as u64) < in_use,
+        ),
+        (
+            "ill-formed: ends shorter than the stack",
+            (m.ends.len() as u64) < in_use,
+        ),
         ("ill-formed: a start above its end", turned),
-        ("ill-formed: an index not below the capacity", intervals.iter().any(|(s, e)| *s.max(e) >= capacity)),
+        (
+            "ill-formed: an index not below the capacity",
+            intervals.iter().any(|(s, e)| *s.max(e) >= capacity),
+        ),
         ("ill-formed: an index in two intervals", shared),
     ];
-    clauses.iter().filter(|(_, is_broken)| *is_broken).map(|(name, _)| *name).collect()
+    clauses
+        .iter()
+        .filter(|(_, is_broken)| *is_broken)
+        .map(|(name, _)| *name)
+        .collect()
 }
 
 fn shares_an_index(intervals: &[(u64, u64)]) -> bool {

@@ -32,8 +32,12 @@ fn meet_edges(call: Call, before: &Memory, value: u64, coverage: &mut Coverage) 
     }
     match call {
         Call::Release(i) if i >= 1 << 32 => coverage.meet("release of an index of 2^32 or more"),
-        Call::ChangeCapacity(_) if value == 13 && !model::broken(before).is_empty() => coverage.meet("13 where 1 applies too"),
-        Call::ChangeCapacity(n) if value == 1 && n > before.starts.len().min(before.ends.len()) && model::broken(before).is_empty() => {
+        Call::ChangeCapacity(_) if value == 13 && !model::broken(before).is_empty() => {
+            coverage.meet("13 where 1 applies too")
+        }
+        Call::ChangeCapacity(n)
+            if value == 1 && n > before.starts.len().min(before.ends.len()) && model::broken(before).is_empty() =>
+        {
             coverage.meet("a change past a slice's length")
         }
         _ => {}
@@ -53,7 +57,17 @@ fn hold(call: Call, memory: &mut Memory, coverage: &mut Coverage) -> Result<u64,
 fn any_number(random: &mut Random) -> usize {
     match random.below(4) {
         0 => random.below(8),
-        1 => [1023, 1024, 1025, 65_535, 65_536, u32::MAX as usize, 1 << 32, 1 << 63, usize::MAX][random.below(9)],
+        1 => [
+            1023,
+            1024,
+            1025,
+            65_535,
+            65_536,
+            u32::MAX as usize,
+            1 << 32,
+            1 << 63,
+            usize::MAX,
+        ][random.below(9)],
         2 => random.below(1100),
         _ => random.number() as usize,
     }
@@ -73,13 +87,21 @@ fn any_call(random: &mut Random) -> Call {
 }
 
 fn any_entries(random: &mut Random) -> Vec<u16> {
-    let len = if random.one_in(20) { random.below(1100) } else { random.below(8) };
+    let len = if random.one_in(20) {
+        random.below(1100)
+    } else {
+        random.below(8)
+    };
     let bound = if random.one_in(4) { 65_536 } else { 6 };
     (0..len).map(|_| random.below(bound) as u16).collect()
 }
 
 fn any_memory(random: &mut Random) -> Memory {
-    let words = if random.one_in(10) { random.below(2) } else { random.within(2, 3) };
+    let words = if random.one_in(10) {
+        random.below(2)
+    } else {
+        random.within(2, 3)
+    };
     Memory {
         words: (0..words).map(|_| if random.one_in(8) { any_number(random) } else { random.below(7) } as u64).collect(),
         starts: any_entries(random),
@@ -109,7 +131,11 @@ fn well_formed(capacity: usize, len: usize, random: &mut Random) -> Memory {
     model::made(Call::New(capacity), &mut m);
     for _ in 0..random.below(3 * capacity + 1) {
         let index = random.below(capacity);
-        let call = if m.is_free(index as u64) { Call::Get } else { Call::Release(index) };
+        let call = if m.is_free(index as u64) {
+            Call::Get
+        } else {
+            Call::Release(index)
+        };
         model::made(call, &mut m);
     }
     m
@@ -155,7 +181,11 @@ fn with_broken(clause: &str, random: &mut Random) -> Memory {
         "ill-formed: starts shorter than the stack" | "ill-formed: ends shorter than the stack" => {
             m = all_single(capacity);
             m.words[1] += random.within(1, 4) as u64;
-            let longer = if clause.contains("starts") { &mut m.ends } else { &mut m.starts };
+            let longer = if clause.contains("starts") {
+                &mut m.ends
+            } else {
+                &mut m.starts
+            };
             longer.resize(capacity + 9, random.below(capacity) as u16);
         }
         "ill-formed: a start above its end" => {
@@ -185,8 +215,19 @@ pub fn each_clause_broken(coverage: &mut Coverage) -> Result<(), String> {
             }
             coverage.meet(clause);
             let number = any_number(&mut random);
-            for call in [Call::ChangeCapacity(number), Call::Get, Call::Release(number), Call::Used, Call::IsEmpty, Call::GetCapacity] {
-                let owed = if call == Call::ChangeCapacity(number) && number > 1024 { 13 } else { 1 };
+            for call in [
+                Call::ChangeCapacity(number),
+                Call::Get,
+                Call::Release(number),
+                Call::Used,
+                Call::IsEmpty,
+                Call::GetCapacity,
+            ] {
+                let owed = if call == Call::ChangeCapacity(number) && number > 1024 {
+                    13
+                } else {
+                    1
+                };
                 if hold(call, &mut m, coverage)? != owed {
                     return Err(format!("{call:?} is not refused with {owed} on {m:?}"));
                 }
