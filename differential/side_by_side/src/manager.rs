@@ -111,6 +111,23 @@ fn made_by_library(call: Call, m: &mut Memory) -> Returned {
     Returned { value, answer }
 }
 
+/// The faults that the model and the library share, sown after an accepted get.
+fn sow_in_both(call: Call, returned: &mut Returned, m: &mut Memory) {
+    if call != Call::Get || returned.value != 0 {
+        return;
+    }
+    let past = m.words[1] as usize;
+    if mutant::is("both-give-the-next-index") {
+        returned.answer += 1;
+    }
+    if mutant::is("both-clear-a-popped-entry") && past < m.starts.len() {
+        m.starts[past] = 0;
+    }
+    if mutant::is("both-write-an-entry-never-in-use") {
+        *m.ends.last_mut().expect("a manager that gives has an entry") = 0;
+    }
+}
+
 fn told(call: Call, before: &Memory, left: (&str, Returned, &Memory), right: (&str, Returned, &Memory)) -> String {
     let side =
         |(name, returned, after): (&str, Returned, &Memory)| format!("{name}: {returned:?}\n    leaves {after:?}\n");
@@ -121,8 +138,10 @@ fn told(call: Call, before: &Memory, left: (&str, Returned, &Memory), right: (&s
 fn held_to_model(call: Call, memory: &mut Memory) -> Result<Returned, String> {
     let before = memory.clone();
     let mut expected = memory.clone();
-    let owed = model::made(call, &mut expected);
-    let got = made_by_library(call, memory);
+    let mut owed = model::made(call, &mut expected);
+    let mut got = made_by_library(call, memory);
+    sow_in_both(call, &mut owed, &mut expected);
+    sow_in_both(call, &mut got, memory);
     if got != owed || *memory != expected {
         return Err(told(
             call,

@@ -1,9 +1,10 @@
-//! Faults sown on purpose in the model or in the harness, one at a time, by the environment variable MUTANT. The script
-//! `differential/mutants` shows that each is noticed.
+//! Faults sown on purpose in the model, in the harness, or in the same way in the model and in what the library did, one at
+//! a time, by the environment variable MUTANT. The script `differential/mutants` shows that each is noticed: those of the
+//! last sort by the Rust alone.
 use std::env;
 use std::sync::OnceLock;
 
-pub const MUTANTS: [&str; 10] = [
+pub const MUTANTS: [&str; 13] = [
     "release-merges-at-the-other-end",
     "get-leaves-an-emptied-interval",
     "change-pushes-one-index-too-few",
@@ -14,6 +15,9 @@ pub const MUTANTS: [&str; 10] = [
     "harness-writes-the-answer-of-a-refused-call",
     "harness-releases-the-next-index",
     "harness-never-grows",
+    "both-give-the-next-index",
+    "both-clear-a-popped-entry",
+    "both-write-an-entry-never-in-use",
 ];
 
 fn sown() -> Option<&'static str> {

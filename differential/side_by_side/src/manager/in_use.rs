@@ -13,7 +13,7 @@ const RANDOM_CALLS: u64 = 2_500_000;
 struct Pair {
     rust: IntervalStoreManager<usize>,
     memory: Memory,
-    /// The slices before the first call: an entry that the Rust's vectors do not have yet was never written.
+    /// The slices before the opening: an entry that the Rust's vectors do not have yet was not written since.
     lent: Memory,
     in_use: Vec<usize>,
 }
@@ -109,6 +109,10 @@ impl Pair {
         let answer = catch_unwind(AssertUnwindSafe(|| rust_answer(&mut self.rust, call)));
         let expected = answer.map_err(|_| format!("the Rust panics at {call:?} on {before:?}"))?;
         let memory = self.memory.clone();
+        if let Call::New(_) = call {
+            self.lent = memory.clone();
+            self.in_use.clear();
+        }
         let got = held_to_model(call, &mut self.memory)?;
         if got != expected || !self.agrees() {
             return Err(format!(
@@ -157,7 +161,7 @@ fn lists_from(pair: &Pair, left: usize, coverage: &mut Coverage) -> Result<(), S
     if left == 0 {
         return Ok(());
     }
-    let mut calls = vec![Call::Get, Call::Used, Call::IsEmpty, Call::GetCapacity];
+    let mut calls = vec![Call::New(2), Call::Get, Call::Used, Call::IsEmpty, Call::GetCapacity];
     calls.extend(pair.in_use.iter().map(|i| Call::Release(*i)));
     calls.extend((0..=pair.memory.starts.len()).map(Call::ChangeCapacity));
     for call in calls {
@@ -198,6 +202,9 @@ fn release_near(pair: &Pair, last: usize, by: isize, random: &mut Random) -> Cal
 fn random_call(pair: &Pair, mood: Mood, last: usize, random: &mut Random) -> Call {
     let len = pair.memory.starts.len().min(1024);
     let capacity = pair.rust.get_capacity();
+    if random.one_in(2000) {
+        return Call::New(random.within(1, len));
+    }
     match random.below(100) {
         0 => return Call::Used,
         1 => return Call::IsEmpty,
