@@ -1,0 +1,9 @@
+pub mod Row
+pub mod Overlap
+pub mod Laying
+pub mod Copying
+pub mod Growth
+pub mod Alignment
+pub mod Compaction
+pub mod Steps
+pub mod Windows

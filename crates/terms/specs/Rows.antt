@@ -1,0 +1,9 @@
+-- Two rows are equal where they are as long as each other and their elements are equal, one by one, by `eq`.
+use mathlib.Core.Bool.{Bool, true, false, cond}
+use mathlib.Core.List.{List, [], _∷_}
+
+unfoldable pub allEqual : {E : Type 0} → (E → E → Bool) → List E → List E → Bool
+allEqual eq [] [] = true
+allEqual eq [] (y ∷ ys) = false
+allEqual eq (x ∷ xs) [] = false
+allEqual eq (x ∷ xs) (y ∷ ys) = cond (eq x y) (allEqual eq xs ys) false
