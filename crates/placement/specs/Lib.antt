@@ -1,9 +1,14 @@
 pub mod Row
+pub mod Pieces
 pub mod Overlap
 pub mod Laying
 pub mod Copying
+pub mod CopyingLaws
 pub mod Growth
 pub mod Alignment
+pub mod AlignmentLaws
 pub mod Compaction
 pub mod Steps
+pub mod Order
+pub mod StepsLaw
 pub mod Windows

@@ -1,0 +1,38 @@
+-- Document 01's own sentence on a copy, and what a copy depends on.
+use mathlib.Core.List.{List, _++_}
+use mathlib.Core.Path.{_≡_, refl, sym, ap, _∙_}
+use Prim.Native.Nat.{ℕ, _+_, _-_, _%_, _≤_, _<_}
+use native.Mathlib.Nat.{mod-eq-of-lt, add-mod-right}
+use native.Mathlib.Decide.{decLt}
+use native.Mathlib.Omega.{arith}
+use lib.ListN.{length, take, drop, getD, length-take, length-drop, length-append, List·getD-append}
+use lib.Seq.{getD-append-add, getD-take, getD-drop}
+use Rattle.placement.specs.Copying.{turned}
+
+module _ {E : Type 0} (dims t : ℕ) (stored : List E) (whole : length stored ≡ dims) (small : t ≤ dims) where
+  -- 'Entry (i + t) mod dimensions is stored float i'
+  pub turned-entry : (i : ℕ) (d : E) → i < dims → getD (turned dims t stored) ((i + t) % dims) d ≡ getD stored i d
+  unfolding turned
+  turned-entry i d h = go (decLt (i + t) dims)
+    where
+      last : List E
+      last = drop (dims - t) stored
+
+      counted : length last ≡ t
+      counted = simp length-drop (omega arith)
+
+      go : Dec (i + t < dims) → getD (last ++ take (dims - t) stored) ((i + t) % dims) d ≡ getD stored i d
+      go (yes inside) =
+          let e : (i + t) % dims ≡ length last + i = mod-eq-of-lt inside ∙ omega (arith, counted) in
+          rw e (getD-append-add last (take (dims - t) stored) i d ∙ getD-take (dims - t) stored i d (omega arith))
+      go (no past) =
+          let k : ℕ = i + t - dims in
+          let e : (i + t) % dims ≡ k = ap (λ (n : ℕ). n % dims) (let q : i + t ≡ k + dims = omega arith in q) ∙ add-mod-right k dims ∙ mod-eq-of-lt (omega arith) in
+          rw e
+          (List·getD-append last (take (dims - t) stored) d k (omega (arith, counted))
+          ∙ getD-drop (dims - t) stored k d
+          ∙ ap (λ (n : ℕ). getD stored n d) (omega arith))
+
+  pub length-turned : length (turned dims t stored) ≡ dims
+  unfolding turned
+  length-turned = simp (length-append, length-take, length-drop) (omega arith)
