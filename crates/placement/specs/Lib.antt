@@ -11,4 +11,6 @@ pub mod Compaction
 pub mod Steps
 pub mod Order
 pub mod StepsLaw
+pub mod ProgressLaws
+pub mod Scan
 pub mod Windows
