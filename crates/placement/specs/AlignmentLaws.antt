@@ -18,20 +18,25 @@ alignment-difference dims free start h k =
     let e : ((dims + (2 ^ 64 - free)) % 2 ^ 64 + start) % 2 ^ 64 ≡ dims + (start - free) = omega arith in
     ap (λ (n : ℕ). n % dims) e ∙ add-mod-left dims (start - free)
 
--- what may stand before a point in all: nothing, or with rotation less than a point
-unfoldable pub slack : Bool → (dims base : ℕ) → ℕ
-slack rotation dims base = cond rotation (dims - base) 0
+-- how many elements a point takes at most, its zeros among them
+unfoldable pub pointRoom : Bool → (dims base : ℕ) → ℕ
+pointRoom rotation dims base = cond rotation (2 * dims - base) dims
+
+pub point-room : (rotation : Bool) (dims base : ℕ) → base ≤ dims → dims ≤ pointRoom rotation dims base
+unfolding pointRoom
+point-room true dims base h = omega arith
+point-room false dims base h = omega arith
 
 -- `zeros` put at `free`, before a block that starts at `start`
 pub record Aligned (rotation : Bool) (dims base free start zeros : ℕ) : Type 0 where
   pub behind : free + zeros ≤ start
-  pub few : zeros ≤ slack rotation dims base
+  pub few : zeros + dims ≤ pointRoom rotation dims base
   pub whole : base ∣ zeros
   pub same-turn : rotation ≡ true → dims ∣ start - (free + zeros)
 
 pub zeros-aligned : (rotation : Bool) (dims base free start : ℕ) → free ≤ start → start + dims < 2 ^ 64 → 0 < dims → base ∣ dims → base ∣ free → base ∣ start
     → Aligned rotation dims base free start (zerosBefore rotation dims free start)
-unfolding zerosBefore slack
+unfolding zerosBefore pointRoom
 zeros-aligned false dims base free start h k d bd bf bs =
     record {
       behind = omega arith;

@@ -20,6 +20,11 @@ liveBelow location zero = []
 liveBelow location (suc place) =
     cond (holds location place) (liveBelow location place ++ place ∷ []) (liveBelow location place)
 
+-- how many points there are
+unfoldable pub liveCount : List ℕ → ℕ
+liveCount [] = 0
+liveCount (p ∷ ps) = cond (eqb p 65535) (liveCount ps) (suc (liveCount ps))
+
 -- a point's place before and after
 pub record Move : Type 0 where
   pub old : ℕ

@@ -13,4 +13,5 @@ pub mod Order
 pub mod StepsLaw
 pub mod ProgressLaws
 pub mod Scan
+pub mod CompactionLaws
 pub mod Windows

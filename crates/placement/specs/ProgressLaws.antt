@@ -14,7 +14,7 @@ use lib.Seq.{drop-drop, drop-append-le, take-take}
 use Rattle.placement.specs.Row.{piece}
 use Rattle.placement.specs.Pieces.{piece-join, drop-piece, length-piece, piece-front}
 use Rattle.placement.specs.Alignment.{zerosBefore}
-use Rattle.placement.specs.AlignmentLaws.{slack, Aligned, zeros-aligned}
+use Rattle.placement.specs.AlignmentLaws.{pointRoom, point-room, Aligned, zeros-aligned}
 use Rattle.placement.specs.Compaction.{Move, Written, copiedDown}
 use Rattle.placement.specs.Order.{Each, Ranked, Below, each-map, each-last, ranked-last}
 use Rattle.placement.specs.Steps.{Progress, taken, step}
@@ -41,7 +41,7 @@ pub record Sound {E : Type 0} (dims base : ℕ) (rotation : Bool) (elements : Li
   pub whole-read : base ∣ s .read
   pub counted : length (s .written .front) ≡ s .written .free
   pub aligned : rotation ≡ true → dims ∣ s .read - s .written .free
-  pub room : s .written .free ≤ length ps * (dims + slack rotation dims base)
+  pub room : s .written .free ≤ length ps * pointRoom rotation dims base
   pub started : (s .written .free ≡ 0) ⊎ (dims ≤ s .written .free)
   -- the last elements written are the last that were read
   pub last : ℕ
@@ -59,7 +59,7 @@ module _ {E : Type 0} (zeroElement : E) (dims base : ℕ) (rotation : Bool) (ele
       low : p * base ≤ from
       high : from + base ≤ p * base + dims
       behind : s .written .free + zeros ≤ from
-      few : zeros ≤ slack rotation dims base
+      few : zeros + dims ≤ pointRoom rotation dims base
       whole-zeros : base ∣ zeros
       whole-from : base ∣ from
       aligned : rotation ≡ true → dims ∣ from - (s .written .free + zeros)
@@ -78,7 +78,7 @@ module _ {E : Type 0} (zeroElement : E) (dims base : ℕ) (rotation : Bool) (ele
         let low : p * base ≤ from = r .low in
         let high : from + base ≤ p * base + dims = r .high in
         let behind : f + zeros ≤ from = r .behind in
-        let few : zeros ≤ slack rotation dims base = r .few in
+        let few : zeros + dims ≤ pointRoom rotation dims base = r .few in
         let enough : from - p * base ≤ f + zeros = r .enough in
         let whole : base ∣ f′ = dvd-add base (dvd-add base (sound .whole-free) (r .whole-zeros)) (dvd-sub base (dvd-add base (dvd-mul-left base p) (shaped .whole)) (r .whole-from)) in
         let at : new * base ≡ f′ - dims = div-mul-cancel base (dvd-sub base whole (shaped .whole)) in
@@ -160,7 +160,7 @@ module _ {E : Type 0} (zeroElement : E) (dims base : ℕ) (rotation : Bool) (ele
           low = h;
           high = omega (arith, sound .next);
           behind = omega (arith, sound .behind);
-          few = omega arith;
+          few = omega (arith, point-room rotation dims base (le-of-dvd (shaped .some) (shaped .whole)));
           whole-zeros = dvd-zero base;
           whole-from = sound .whole-read;
           aligned = λ e. rw add-zero (sound .aligned e);

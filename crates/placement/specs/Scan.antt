@@ -4,13 +4,13 @@ use mathlib.Core.List.{List, [], _∷_, _++_}
 use mathlib.Core.Logic.{inl}
 use mathlib.Core.Path.{_≡_, refl, sym, ap, subst, _∙_}
 use Prim.Native.Nat.{ℕ, zero, suc, _+_, _*_, _-_, _/_, _^_, _≤_, _<_}
-use native.Mathlib.Nat.{dvd-zero, le-of-dvd}
+use native.Mathlib.Nat.{dvd-zero, le-of-dvd, le-trans}
 use native.Mathlib.Decide.{ℕ-discrete}
 use native.Mathlib.Omega.{arith}
-use borrow.Author.Tests.{eq-eqb, ne-eqb, eqb-true}
-use lib.Dec.{eqb}
-use lib.ListN.{length, getD}
-use Rattle.placement.specs.Compaction.{Move, Written, nothingWritten, holds, liveBelow}
+use borrow.Author.Tests.{eq-eqb, eqb-true, eqb-false, lt-ltb, le-ltb, ltb-true, ltb-false}
+use lib.Dec.{ltb, eqb}
+use lib.ListN.{length, getD, length-append}
+use Rattle.placement.specs.Compaction.{Move, Written, nothingWritten, holds, liveBelow, liveCount}
 use Rattle.placement.specs.Order.{Each, Rising, each-map, each-last, rising-last}
 use Rattle.placement.specs.ProgressLaws.{Shaped, Kept, Sound, step-sound}
 use Rattle.placement.specs.Steps.{Progress, step, stepsFrom, steps}
@@ -98,6 +98,50 @@ module _ (location : List ℕ) where
       go (yes same) false f ih = absurd (true≢false (sym e ∙ ap (holds location) same ∙ f))
       go (no other) true f ih = holds-last (liveBelow location q) q p ∙ rw (ih (omega arith) e)
       go (no other) false f ih = ih (omega arith) e
+
+-- how many points have a place below q
+below : List ℕ → ℕ → ℕ
+below [] q = 0
+below (p ∷ ps) q = cond (ltb p q) (suc (below ps q)) (below ps q)
+
+below-next : (location : List ℕ) (q : ℕ) → below location q + cond (holds location q) 1 0 ≤ below location (suc q)
+unfolding below holds
+below-next [] q = omega arith
+below-next (p ∷ ps) q = go (ltb p q) refl (eqb p q) refl (below-next ps q)
+  where
+    go : (t : Bool) → ltb p q ≡ t → (u : Bool) → eqb p q ≡ u → below ps q + cond (holds ps q) 1 0 ≤ below ps (suc q)
+        → cond t (suc (below ps q)) (below ps q) + cond (cond u true (holds ps q)) 1 0 ≤ cond (ltb p (suc q)) (suc (below ps (suc q))) (below ps (suc q))
+    go true e true f h = absurd (omega (arith, ltb-true p q e, eqb-true p q f))
+    go true e false f h = rw (lt-ltb p (suc q) (omega (arith, ltb-true p q e))) (omega arith)
+    go false e true f h = rw (lt-ltb p (suc q) (omega (arith, eqb-true p q f))) (omega arith)
+    go false e false f h = rw (le-ltb p (suc q) (after (ltb-false p q e) (eqb-false p q f))) h
+      where
+        after : q ≤ p → ¬ (p ≡ q) → suc q ≤ p
+        after a b = omega arith
+
+below-count : (location : List ℕ) (q : ℕ) → q ≤ 65535 → below location q ≤ liveCount location
+unfolding below liveCount
+below-count [] q h = omega arith
+below-count (p ∷ ps) q h = go (ltb p q) refl (eqb p 65535) refl (below-count ps q h)
+  where
+    go : (t : Bool) → ltb p q ≡ t → (u : Bool) → eqb p 65535 ≡ u → below ps q ≤ liveCount ps → cond t (suc (below ps q)) (below ps q) ≤ cond u (liveCount ps) (suc (liveCount ps))
+    go true e true f l = absurd (omega (arith, ltb-true p q e, eqb-true p 65535 f))
+    go true e false f l = omega arith
+    go false e true f l = l
+    go false e false f l = omega arith
+
+-- the scan meets no more places than there are points
+pub live-count : (location : List ℕ) (q : ℕ) → q ≤ 65535 → length (liveBelow location q) ≤ liveCount location
+unfolding liveBelow
+live-count location q h = le-trans (counted q) (below-count location q h)
+  where
+    counted : (q : ℕ) → length (liveBelow location q) ≤ below location q
+    counted zero = omega arith
+    counted (suc q) = go (holds location q) refl (counted q)
+      where
+        go : (t : Bool) → holds location q ≡ t → length (liveBelow location q) ≤ below location q → length (liveBelow location (suc q)) ≤ below location (suc q)
+        go true e l = rw (live-next location q e, length-append) (omega (arith, rw e at (below-next location q)))
+        go false e l = rw (live-none location q e) (omega (arith, below-next location q))
 
 module _ {E : Type 0} (zeroElement : E) (dims base : ℕ) (rotation : Bool) (elements : List E) where
   steps-last : (s : Progress E) (ps : List ℕ) (p : ℕ) → stepsFrom zeroElement dims base rotation elements s (ps ++ p ∷ []) ≡ step zeroElement dims base rotation elements (stepsFrom zeroElement dims base rotation elements s ps) p

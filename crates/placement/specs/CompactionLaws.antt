@@ -1,0 +1,203 @@
+-- What compaction keeps, on places and a free start as a well-formed store has them.
+use mathlib.Core.Bool.{Bool, true, false, cond, true≢false, false≢true}
+use mathlib.Core.List.{List, [], _∷_, _++_, map}
+use mathlib.Core.Logic.{_⊎_}
+use mathlib.Core.Path.{_≡_, refl, sym, ap, subst, subst⁻¹, _∙_}
+use Prim.Native.Nat.{ℕ, zero, suc, _+_, _*_, _-_, _/_, _%_, _^_, _≤_, _<_, _∣_}
+use native.Mathlib.Nat.{le-of-dvd, mul-le-mul-right, le-div-iff-mul-le, div-le-self, le-trans}
+use native.Mathlib.Decide.{decLt}
+use native.Mathlib.Omega.{arith}
+use borrow.Author.Tests.{eqb-true, eqb-false}
+use lib.Dec.{eqb}
+use lib.ListN.{length, drop, getD, length-append, length-drop, length-map, List·getD-map}
+use lib.Seq.{drop-at}
+use Rattle.placement.specs.Row.{piece}
+use Rattle.placement.specs.Pieces.{piece-front}
+use Rattle.placement.specs.AlignmentLaws.{pointRoom}
+use Rattle.placement.specs.Copying.{turn, copied}
+use Rattle.placement.specs.Compaction.{Move, Written, Layout, holds, liveBelow, liveCount, moved, settled, writtenByBlocks, compacted}
+use Rattle.placement.specs.Order.{Each, Below, Ranked, each-map}
+use Rattle.placement.specs.ProgressLaws.{Shaped, Kept, Sound}
+use Rattle.placement.specs.Scan.{holds-at, holds-index, live-rising, live-met, live-count, scan-sound}
+use Rattle.placement.specs.Steps.{Progress, steps}
+use Rattle.placement.specs.StepsLaw.{steps-are-blocks}
+
+-- index i has a point
+pub record Live (location : List ℕ) (i : ℕ) : Type 0 where
+  pub listed : i < length location
+  pub placed : ¬ (getD location i 65535 ≡ 65535)
+
+-- every point ends by the free start, and the free start by the store length. Document 01's bounds give `small`: dimensions are
+-- at most 64 and the free start is at most 16,384.
+pub record WellPlaced (dims base : ℕ) (location : List ℕ) (free length : ℕ) : Type 0 where
+  pub shaped : Shaped dims base
+  pub small : free + dims ≤ 65535
+  pub inside : free ≤ length
+  pub ends : (i : ℕ) → Live location i → getD location i 65535 * base + dims ≤ free
+
+-- 'live places are distinct'
+abbrev pub Distinct : List ℕ → Type 0
+Distinct location = (i j : ℕ) → Live location i → Live location j → getD location i 65535 ≡ getD location j 65535 → i ≡ j
+
+-- what compaction keeps
+pub record Compacted {E : Type 0} (dims base : ℕ) (rotation : Bool) (location : List ℕ) (free : ℕ) (elements : List E) (after : Layout E) : Type 0 where
+  pub length-kept : length (after .elements) ≡ length elements
+  pub indices-kept : length (after .location) ≡ length location
+  pub rest-kept : drop (after .free) (after .elements) ≡ drop (after .free) elements
+  pub free-started : (after .free ≡ 0) ⊎ (dims ≤ after .free)
+  pub free-whole : base ∣ after .free
+  pub free-down : after .free ≤ free
+  pub free-room : after .free ≤ liveCount location * pointRoom rotation dims base
+  pub empty-kept : (i : ℕ) → getD location i 65535 ≡ 65535 → getD (after .location) i 65535 ≡ 65535
+  pub ends : (i : ℕ) → Live location i → getD (after .location) i 65535 * base + dims ≤ after .free
+  pub same : (i : ℕ) → Live location i → piece (getD (after .location) i 65535 * base) dims (after .elements) ≡ piece (getD location i 65535 * base) dims elements
+  pub same-turn : (i : ℕ) → Live location i → turn rotation dims base (getD (after .location) i 65535) ≡ turn rotation dims base (getD location i 65535)
+  pub rank : (i j : ℕ) → Live location i → Live location j → getD location i 65535 < getD location j 65535 → getD (after .location) i 65535 < getD (after .location) j 65535
+
+-- ---- the place after the moves
+
+olds : List Move → List ℕ
+olds ms = map (λ (m : Move). m .old) ms
+
+-- what holds of every move holds of the place that a place is moved to
+moved-each : (P : Move → Type 0) (ms : List Move) (p : ℕ) → Each P ms → holds (olds ms) p ≡ true → P (record { old = p; new = moved ms p })
+unfolding holds moved olds
+moved-each P [] p e h = absurd (false≢true h)
+moved-each P (m ∷ ms) p e h = go (eqb (m .old) p) refl h (moved-each P ms p (e .1))
+  where
+    go : (t : Bool) → eqb (m .old) p ≡ t → cond t true (holds (olds ms) p) ≡ true → (holds (olds ms) p ≡ true → P (record { old = p; new = moved ms p }))
+        → P (record { old = p; new = cond t (m .new) (moved ms p) })
+    go true f h ih = subst (λ (q : ℕ). P (record { old = q; new = m .new })) (eqb-true (m .old) p f) (e .0)
+    go false f h ih = ih h
+
+-- a place that no move has stays
+unmoved : (ms : List Move) (p : ℕ) → holds (olds ms) p ≡ false → moved ms p ≡ p
+unfolding holds moved olds
+unmoved [] p h = refl
+unmoved (m ∷ ms) p h = go (eqb (m .old) p) h (unmoved ms p)
+  where
+    go : (t : Bool) → cond t true (holds (olds ms) p) ≡ false → (holds (olds ms) p ≡ false → moved ms p ≡ p) → cond t (m .new) (moved ms p) ≡ p
+    go true h ih = absurd (true≢false h)
+    go false h ih = ih h
+
+-- places keep their order
+moved-rank : (ms : List Move) (p q : ℕ) → Ranked ms → holds (olds ms) p ≡ true → holds (olds ms) q ≡ true → p < q → moved ms p < moved ms q
+unfolding holds moved olds
+moved-rank [] p q r hp hq h = absurd (false≢true hp)
+moved-rank (m ∷ ms) p q r hp hq h = go (eqb (m .old) p) refl (eqb (m .old) q) refl hp hq (moved-rank ms p q (r .1))
+  where
+    go : (t : Bool) → eqb (m .old) p ≡ t → (u : Bool) → eqb (m .old) q ≡ u → cond t true (holds (olds ms) p) ≡ true → cond u true (holds (olds ms) q) ≡ true
+        → (holds (olds ms) p ≡ true → holds (olds ms) q ≡ true → p < q → moved ms p < moved ms q)
+        → cond t (m .new) (moved ms p) < cond u (m .new) (moved ms q)
+    go true e true f hp hq ih = absurd (omega (arith, eqb-true (m .old) p e, eqb-true (m .old) q f))
+    go true e false f hp hq ih = moved-each (Below m) ms q (r .0) hq .1
+    go false e true f hp hq ih = let b : Below m (record { old = p; new = moved ms p }) = moved-each (Below m) ms p (r .0) hp in absurd (omega (arith, b .0, eqb-true (m .old) q f))
+    go false e false f hp hq ih = ih hp hq h
+
+module _ {E : Type 0} (zeroElement : E) (dims base : ℕ) (rotation : Bool) (elements : List E) (location : List ℕ) (free : ℕ) (well : WellPlaced dims base location free (length elements)) where
+  live : List ℕ
+  live = liveBelow location (free / base)
+
+  -- every place that the scan meets is that of a point
+  met-ends : (p : ℕ) → p < free / base → holds location p ≡ true → p * base + dims ≤ free
+  met-ends p h e =
+      let found = holds-index location p 65535 e in
+      let below : p < 65535 = omega (arith, div-le-self free base, well .small) in
+      subst (λ (n : ℕ). n * base + dims ≤ free) (found .2)
+      (well .ends (found .0) (record { listed = found .1; placed = λ q. omega (arith, sym (found .2) ∙ q) }))
+
+  sound : Sound dims base rotation elements free live (free / base) (steps zeroElement dims base rotation elements live)
+  unfolding live
+  sound = scan-sound zeroElement dims base rotation elements free (well .shaped) (omega (arith, well .small)) (well .inside) location (free / base) met-ends
+
+  -- compaction is what the scan's steps leave
+  pub compacted-by-steps : compacted zeroElement dims base rotation elements location free ≡ settled elements location (steps zeroElement dims base rotation elements (liveBelow location (free / base)) .written)
+  unfolding compacted
+  compacted-by-steps = sym (ap (settled elements location) (steps-are-blocks zeroElement dims base rotation elements (omega (arith, well .small)) (liveBelow location (free / base)) (live-rising location (free / base))))
+
+  -- a point's place is met
+  met : (i : ℕ) → Live location i → holds live (getD location i 65535) ≡ true
+  unfolding live
+  met i l =
+      let ends : getD location i 65535 * base + dims ≤ free = well .ends i l in
+      let wide : base ≤ dims = le-of-dvd (well .shaped .some) (well .shaped .whole) in
+      live-met location (free / base) (getD location i 65535) (le-div-iff-mul-le (well .shaped .some-base) .1 (omega arith)) (holds-at location i 65535 (l .listed))
+
+  abbrev w : Written E
+  w = steps zeroElement dims base rotation elements live .written
+
+  -- the move of the point at index i
+  moved-kept : (i : ℕ) → Live location i → Kept dims base rotation elements (free / base) (w .front) (w .free) (record { old = getD location i 65535; new = moved (w .moves) (getD location i 65535) })
+  unfolding olds
+  moved-kept i l =
+      moved-each (Kept dims base rotation elements (free / base) (w .front) (w .free)) (w .moves) (getD location i 65535) (sound .kept)
+      (rw (sound .olds) (met i l))
+
+  -- an empty place is moved by none
+  empty : moved (w .moves) 65535 ≡ 65535
+  empty = go (holds (olds (w .moves)) 65535) refl
+    where
+      go : (t : Bool) → holds (olds (w .moves)) 65535 ≡ t → moved (w .moves) 65535 ≡ 65535
+      go true e =
+          let k : Kept dims base rotation elements (free / base) (w .front) (w .free) (record { old = 65535; new = moved (w .moves) 65535 }) = moved-each (Kept dims base rotation elements (free / base) (w .front) (w .free)) (w .moves) 65535 (sound .kept) e in
+          absurd (omega (arith, k .older, div-le-self free base, well .small))
+      go false e = unmoved (w .moves) 65535 e
+
+  place-after : (i : ℕ) → getD (map (moved (w .moves)) location) i 65535 ≡ moved (w .moves) (getD location i 65535)
+  place-after i = ap (getD (map (moved (w .moves)) location) i) (sym empty) ∙ List·getD-map (moved (w .moves)) location i 65535
+
+  turn-same : (rotation : Bool) (p q : ℕ) → (rotation ≡ true → p * base % dims ≡ q * base % dims) → turn rotation dims base p ≡ turn rotation dims base q
+  unfolding turn
+  turn-same true p q h = h refl
+  turn-same false p q h = refl
+
+  pub compaction-keeps : Compacted dims base rotation location free elements (compacted zeroElement dims base rotation elements location free)
+  unfolding settled live olds
+  compaction-keeps =
+      subst⁻¹ (Compacted dims base rotation location free elements) compacted-by-steps
+      (record {
+        length-kept = length-append (w .front) (drop (w .free) elements) ∙ rw (sound .counted, length-drop) (omega (arith, sound .behind, sound .inside, well .inside));
+        indices-kept = length-map location (moved (w .moves));
+        rest-kept = drop-at (w .front) (drop (w .free) elements) (w .free) (sound .counted);
+        free-started = sound .started;
+        free-whole = sound .whole-free;
+        free-down = omega (arith, sound .behind, sound .inside);
+        free-room = le-trans (sound .room) (mul-le-mul-right (pointRoom rotation dims base) (live-count location (free / base) (omega (arith, div-le-self free base, well .small))));
+        empty-kept = λ i e. place-after i ∙ ap (moved (w .moves)) e ∙ empty;
+        ends = λ i l. rw (place-after i) (moved-kept i l .ends);
+        same = λ i l. rw (place-after i) (piece-front (moved (w .moves) (getD location i 65535) * base) dims (w .front) (drop (w .free) elements) (omega (arith, sound .counted, moved-kept i l .ends)) ∙ moved-kept i l .same);
+        same-turn = λ i l. rw (place-after i) (turn-same rotation (moved (w .moves) (getD location i 65535)) (getD location i 65535) (moved-kept i l .same-turn));
+        rank = λ i j l m h. rw (place-after i, place-after j) (moved-rank (w .moves) (getD location i 65535) (getD location j 65535) (sound .ranked) (rw (sound .olds) (met i l)) (rw (sound .olds) (met j m)) h);
+      })
+
+-- ---- what follows from it
+
+module _ {E : Type 0} (dims base : ℕ) (rotation : Bool) (location : List ℕ) (free : ℕ) (elements : List E) (after : Layout E) (well : WellPlaced dims base location free (length elements)) (kept : Compacted dims base rotation location free elements after) where
+  -- no point comes into being
+  was-live : (i : ℕ) → Live (after .location) i → Live location i
+  was-live i l = record { listed = rw (kept .indices-kept) at (l .listed); placed = λ e. l .placed (kept .empty-kept i e) }
+
+  pub well-after : WellPlaced dims base (after .location) (after .free) (length (after .elements))
+  well-after =
+      record {
+        shaped = well .shaped;
+        small = omega (arith, kept .free-down, well .small);
+        inside = omega (arith, kept .free-down, well .inside, kept .length-kept);
+        ends = λ i l. kept .ends i (was-live i l);
+      }
+
+  pub distinct-after : Distinct location → Distinct (after .location)
+  distinct-after distinct i j l m e =
+      let p : ℕ = getD location i 65535 in
+      let q : ℕ = getD location j 65535 in
+      distinct i j (was-live i l) (was-live j m) (go (decLt p q) (decLt q p))
+    where
+      go : Dec (getD location i 65535 < getD location j 65535) → Dec (getD location j 65535 < getD location i 65535) → getD location i 65535 ≡ getD location j 65535
+      go (yes h) _ = absurd (omega (arith, kept .rank i j (was-live i l) (was-live j m) h))
+      go (no h) (yes k) = absurd (omega (arith, kept .rank j i (was-live j m) (was-live i l) k))
+      go (no h) (no k) = omega arith
+
+  -- a copy is what it was
+  pub copy-kept : (i : ℕ) → Live location i → copied rotation dims base (getD (after .location) i 65535) (after .elements) ≡ copied rotation dims base (getD location i 65535) elements
+  unfolding copied
+  copy-kept i l = rw (kept .same-turn i l, kept .same i l)
