@@ -17,27 +17,11 @@ use Rattle.placement.specs.AlignmentLaws.{pointRoom}
 use Rattle.placement.specs.Copying.{turn, copied}
 use Rattle.placement.specs.Compaction.{Move, Written, Layout, holds, liveBelow, liveCount, moved, settled, writtenByBlocks, compacted}
 use Rattle.placement.specs.Order.{Each, Below, Ranked, each-map}
-use Rattle.placement.specs.ProgressLaws.{Shaped, Kept, Sound}
+use Rattle.placement.specs.Places.{Shaped, Live, WellPlaced, Distinct}
+use Rattle.placement.specs.ProgressLaws.{Kept, Sound}
 use Rattle.placement.specs.Scan.{holds-at, holds-index, live-rising, live-met, live-count, scan-sound}
 use Rattle.placement.specs.Steps.{Progress, steps}
 use Rattle.placement.specs.StepsLaw.{steps-are-blocks}
-
--- index i has a point
-pub record Live (location : List ℕ) (i : ℕ) : Type 0 where
-  pub listed : i < length location
-  pub placed : ¬ (getD location i 65535 ≡ 65535)
-
--- every point ends by the free start, and the free start by the store length. Document 01's bounds give `small`: dimensions are
--- at most 64 and the free start is at most 16,384.
-pub record WellPlaced (dims base : ℕ) (location : List ℕ) (free length : ℕ) : Type 0 where
-  pub shaped : Shaped dims base
-  pub small : free + dims ≤ 65535
-  pub inside : free ≤ length
-  pub ends : (i : ℕ) → Live location i → getD location i 65535 * base + dims ≤ free
-
--- 'live places are distinct'
-abbrev pub Distinct : List ℕ → Type 0
-Distinct location = (i j : ℕ) → Live location i → Live location j → getD location i 65535 ≡ getD location j 65535 → i ≡ j
 
 -- what compaction keeps
 pub record Compacted {E : Type 0} (dims base : ℕ) (rotation : Bool) (location : List ℕ) (free : ℕ) (elements : List E) (after : Layout E) : Type 0 where

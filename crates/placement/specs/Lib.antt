@@ -9,9 +9,12 @@ pub mod Alignment
 pub mod AlignmentLaws
 pub mod Compaction
 pub mod Steps
+pub mod Places
 pub mod Order
 pub mod StepsLaw
 pub mod ProgressLaws
 pub mod Scan
 pub mod CompactionLaws
+pub mod Alike
+pub mod LayingLaws
 pub mod Windows

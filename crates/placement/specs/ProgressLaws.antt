@@ -17,13 +17,8 @@ use Rattle.placement.specs.Alignment.{zerosBefore}
 use Rattle.placement.specs.AlignmentLaws.{pointRoom, point-room, Aligned, zeros-aligned}
 use Rattle.placement.specs.Compaction.{Move, Written, copiedDown}
 use Rattle.placement.specs.Order.{Each, Ranked, Below, each-map, each-last, ranked-last}
+use Rattle.placement.specs.Places.{Shaped}
 use Rattle.placement.specs.Steps.{Progress, taken, step}
-
--- base is a part of dimensions
-pub record Shaped (dims base : ℕ) : Type 0 where
-  pub some-base : 0 < base
-  pub some : 0 < dims
-  pub whole : base ∣ dims
 
 -- a point that was moved: it ends by the write position, and its elements and its turn are what they were
 pub record Kept {E : Type 0} (dims base : ℕ) (rotation : Bool) (elements : List E) (least : ℕ) (front : List E) (free : ℕ) (m : Move) : Type 0 where

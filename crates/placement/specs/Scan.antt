@@ -12,7 +12,8 @@ use lib.Dec.{ltb, eqb}
 use lib.ListN.{length, getD, length-append}
 use Rattle.placement.specs.Compaction.{Move, Written, nothingWritten, holds, liveBelow, liveCount}
 use Rattle.placement.specs.Order.{Each, Rising, each-map, each-last, rising-last}
-use Rattle.placement.specs.ProgressLaws.{Shaped, Kept, Sound, step-sound}
+use Rattle.placement.specs.Places.{Shaped}
+use Rattle.placement.specs.ProgressLaws.{Sound, step-sound}
 use Rattle.placement.specs.Steps.{Progress, step, stepsFrom, steps}
 
 -- a table holds what stands in it
