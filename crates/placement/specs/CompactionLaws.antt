@@ -7,8 +7,6 @@ use Prim.Native.Nat.{ℕ, zero, suc, _+_, _*_, _-_, _/_, _%_, _^_, _≤_, _<_, _
 use native.Mathlib.Nat.{le-of-dvd, mul-le-mul-right, le-div-iff-mul-le, div-le-self, le-trans}
 use native.Mathlib.Decide.{decLt}
 use native.Mathlib.Omega.{arith}
-use borrow.Author.Tests.{eqb-true, eqb-false}
-use lib.Dec.{eqb}
 use lib.ListN.{length, drop, getD, length-append, length-drop, length-map, List·getD-map}
 use lib.Seq.{drop-at}
 use Rattle.placement.specs.Row.{piece}
@@ -16,7 +14,7 @@ use Rattle.placement.specs.Pieces.{piece-front}
 use Rattle.placement.specs.AlignmentLaws.{pointRoom}
 use Rattle.placement.specs.Copying.{turn, copied}
 use Rattle.placement.specs.Compaction.{Move, Written, Layout, holds, liveBelow, liveCount, moved, settled, writtenByBlocks, compacted}
-use Rattle.placement.specs.Order.{Each, Below, Ranked, each-map}
+use Rattle.placement.specs.MovedLaws.{olds, moved-each, unmoved, moved-rank}
 use Rattle.placement.specs.Places.{Shaped, Live, WellPlaced, Distinct}
 use Rattle.placement.specs.ProgressLaws.{Kept, Sound}
 use Rattle.placement.specs.Scan.{holds-at, holds-index, live-rising, live-met, live-count, scan-sound}
@@ -37,46 +35,6 @@ pub record Compacted {E : Type 0} (dims base : ℕ) (rotation : Bool) (location 
   pub same : (i : ℕ) → Live location i → piece (getD (after .location) i 65535 * base) dims (after .elements) ≡ piece (getD location i 65535 * base) dims elements
   pub same-turn : (i : ℕ) → Live location i → turn rotation dims base (getD (after .location) i 65535) ≡ turn rotation dims base (getD location i 65535)
   pub rank : (i j : ℕ) → Live location i → Live location j → getD location i 65535 < getD location j 65535 → getD (after .location) i 65535 < getD (after .location) j 65535
-
--- ---- the place after the moves
-
-olds : List Move → List ℕ
-olds ms = map (λ (m : Move). m .old) ms
-
--- what holds of every move holds of the place that a place is moved to
-moved-each : (P : Move → Type 0) (ms : List Move) (p : ℕ) → Each P ms → holds (olds ms) p ≡ true → P (record { old = p; new = moved ms p })
-unfolding holds moved olds
-moved-each P [] p e h = absurd (false≢true h)
-moved-each P (m ∷ ms) p e h = go (eqb (m .old) p) refl h (moved-each P ms p (e .1))
-  where
-    go : (t : Bool) → eqb (m .old) p ≡ t → cond t true (holds (olds ms) p) ≡ true → (holds (olds ms) p ≡ true → P (record { old = p; new = moved ms p }))
-        → P (record { old = p; new = cond t (m .new) (moved ms p) })
-    go true f h ih = subst (λ (q : ℕ). P (record { old = q; new = m .new })) (eqb-true (m .old) p f) (e .0)
-    go false f h ih = ih h
-
--- a place that no move has stays
-unmoved : (ms : List Move) (p : ℕ) → holds (olds ms) p ≡ false → moved ms p ≡ p
-unfolding holds moved olds
-unmoved [] p h = refl
-unmoved (m ∷ ms) p h = go (eqb (m .old) p) h (unmoved ms p)
-  where
-    go : (t : Bool) → cond t true (holds (olds ms) p) ≡ false → (holds (olds ms) p ≡ false → moved ms p ≡ p) → cond t (m .new) (moved ms p) ≡ p
-    go true h ih = absurd (true≢false h)
-    go false h ih = ih h
-
--- places keep their order
-moved-rank : (ms : List Move) (p q : ℕ) → Ranked ms → holds (olds ms) p ≡ true → holds (olds ms) q ≡ true → p < q → moved ms p < moved ms q
-unfolding holds moved olds
-moved-rank [] p q r hp hq h = absurd (false≢true hp)
-moved-rank (m ∷ ms) p q r hp hq h = go (eqb (m .old) p) refl (eqb (m .old) q) refl hp hq (moved-rank ms p q (r .1))
-  where
-    go : (t : Bool) → eqb (m .old) p ≡ t → (u : Bool) → eqb (m .old) q ≡ u → cond t true (holds (olds ms) p) ≡ true → cond u true (holds (olds ms) q) ≡ true
-        → (holds (olds ms) p ≡ true → holds (olds ms) q ≡ true → p < q → moved ms p < moved ms q)
-        → cond t (m .new) (moved ms p) < cond u (m .new) (moved ms q)
-    go true e true f hp hq ih = absurd (omega (arith, eqb-true (m .old) p e, eqb-true (m .old) q f))
-    go true e false f hp hq ih = moved-each (Below m) ms q (r .0) hq .1
-    go false e true f hp hq ih = let b : Below m (record { old = p; new = moved ms p }) = moved-each (Below m) ms p (r .0) hp in absurd (omega (arith, b .0, eqb-true (m .old) q f))
-    go false e false f hp hq ih = ih hp hq h
 
 module _ {E : Type 0} (zeroElement : E) (dims base : ℕ) (rotation : Bool) (elements : List E) (location : List ℕ) (free : ℕ) (well : WellPlaced dims base location free (length elements)) where
   live : List ℕ
@@ -112,10 +70,9 @@ module _ {E : Type 0} (zeroElement : E) (dims base : ℕ) (rotation : Bool) (ele
 
   -- the move of the point at index i
   moved-kept : (i : ℕ) → Live location i → Kept dims base rotation elements (free / base) (w .front) (w .free) (record { old = getD location i 65535; new = moved (w .moves) (getD location i 65535) })
-  unfolding olds
   moved-kept i l =
       moved-each (Kept dims base rotation elements (free / base) (w .front) (w .free)) (w .moves) (getD location i 65535) (sound .kept)
-      (rw (sound .olds) (met i l))
+      (rw (sound .olds-met) (met i l))
 
   -- an empty place is moved by none
   empty : moved (w .moves) 65535 ≡ 65535
@@ -136,7 +93,7 @@ module _ {E : Type 0} (zeroElement : E) (dims base : ℕ) (rotation : Bool) (ele
   turn-same false p q h = refl
 
   pub compaction-keeps : Compacted dims base rotation location free elements (compacted zeroElement dims base rotation elements location free)
-  unfolding settled live olds
+  unfolding settled live
   compaction-keeps =
       subst⁻¹ (Compacted dims base rotation location free elements) compacted-by-steps
       (record {
@@ -151,7 +108,7 @@ module _ {E : Type 0} (zeroElement : E) (dims base : ℕ) (rotation : Bool) (ele
         ends = λ i l. rw (place-after i) (moved-kept i l .ends);
         same = λ i l. rw (place-after i) (piece-front (moved (w .moves) (getD location i 65535) * base) dims (w .front) (drop (w .free) elements) (omega (arith, sound .counted, moved-kept i l .ends)) ∙ moved-kept i l .same);
         same-turn = λ i l. rw (place-after i) (turn-same rotation (moved (w .moves) (getD location i 65535)) (getD location i 65535) (moved-kept i l .same-turn));
-        rank = λ i j l m h. rw (place-after i, place-after j) (moved-rank (w .moves) (getD location i 65535) (getD location j 65535) (sound .ranked) (rw (sound .olds) (met i l)) (rw (sound .olds) (met j m)) h);
+        rank = λ i j l m h. rw (place-after i, place-after j) (moved-rank (w .moves) (getD location i 65535) (getD location j 65535) (sound .ranked) (rw (sound .olds-met) (met i l)) (rw (sound .olds-met) (met j m)) h);
       })
 
 -- ---- what follows from it

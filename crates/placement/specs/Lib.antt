@@ -11,10 +11,12 @@ pub mod Compaction
 pub mod Steps
 pub mod Places
 pub mod Order
+pub mod MovedLaws
 pub mod StepsLaw
 pub mod ProgressLaws
 pub mod Scan
 pub mod CompactionLaws
 pub mod Alike
 pub mod LayingLaws
+pub mod InPlace
 pub mod Windows

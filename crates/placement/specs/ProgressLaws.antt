@@ -16,6 +16,7 @@ use Rattle.placement.specs.Pieces.{piece-join, drop-piece, length-piece,
 use Rattle.placement.specs.Alignment.{zerosBefore}
 use Rattle.placement.specs.AlignmentLaws.{pointRoom, point-room, Aligned, zeros-aligned}
 use Rattle.placement.specs.Compaction.{Move, Written, copiedDown}
+use Rattle.placement.specs.MovedLaws.{olds}
 use Rattle.placement.specs.Order.{Each, Ranked, Below, each-map, each-last, ranked-last}
 use Rattle.placement.specs.Places.{Shaped}
 use Rattle.placement.specs.Steps.{Progress, taken, step}
@@ -43,7 +44,7 @@ pub record Sound {E : Type 0} (dims base : ℕ) (rotation : Bool) (elements : Li
   pub last-next : s .read ≤ least * base + last
   pub last-free : last ≤ s .written .free
   pub last-same : drop (s .written .free - last) (s .written .front) ≡ piece (s .read - last) last elements
-  pub olds : map (λ (m : Move). m .old) (s .written .moves) ≡ ps
+  pub olds-met : olds (s .written .moves) ≡ ps
   pub kept : Each (Kept dims base rotation elements least (s .written .front) (s .written .free)) (s .written .moves)
   pub ranked : Ranked (s .written .moves)
 
@@ -61,7 +62,7 @@ module _ {E : Type 0} (zeroElement : E) (dims base : ℕ) (rotation : Bool) (ele
       enough : from - p * base ≤ s .written .free + zeros
       same : drop (s .written .free + zeros - (from - p * base)) (s .written .front ++ replicate zeros zeroElement) ≡ piece (p * base) (from - p * base) elements
 
-    taken-sound : (zeros from : ℕ) → Ready zeros from → Sound dims base rotation elements limit (ps ++ p ∷ []) (suc p) (taken zeroElement dims base rotation elements zeros from p s)
+    taken-sound : (zeros from : ℕ) → Ready zeros from → Sound dims base rotation elements limit (ps ++ p ∷ []) (suc p) (taken zeroElement dims base elements zeros from p s)
     unfolding taken copiedDown
     taken-sound zeros from r =
         let f : ℕ = s .written .free in
@@ -128,7 +129,7 @@ module _ {E : Type 0} (zeroElement : E) (dims base : ℕ) (rotation : Bool) (ele
           last-next = omega arith;
           last-free = omega arith;
           last-same = the-last ∙ ap (λ (n : ℕ). piece n dims elements) (let e : p * base ≡ upto - dims = omega arith in e);
-          olds = map-append (λ (m : Move). m .old) (s .written .moves) (record { old = p; new = new } ∷ []) ∙ ap (λ (l : List ℕ). l ++ p ∷ []) (sound .olds);
+          olds-met = map-append (λ (m : Move). m .old) (s .written .moves) (record { old = p; new = new } ∷ []) ∙ ap (λ (l : List ℕ). l ++ p ∷ []) (sound .olds-met);
           kept =
               each-last (Kept dims base rotation elements (suc p) front f′) (s .written .moves) (record { old = p; new = new })
               (each-map further (s .written .moves) (sound .kept))
@@ -188,6 +189,6 @@ module _ {E : Type 0} (zeroElement : E) (dims base : ℕ) (rotation : Bool) (ele
     unfolding step
     step-sound = go (leb (p * base) (s .read)) refl
       where
-        go : (t : Bool) → leb (p * base) (s .read) ≡ t → Sound dims base rotation elements limit (ps ++ p ∷ []) (suc p) (cond t (taken zeroElement dims base rotation elements 0 (s .read) p s) (taken zeroElement dims base rotation elements (zerosBefore rotation dims (s .written .free) (p * base)) (p * base) p s))
+        go : (t : Bool) → leb (p * base) (s .read) ≡ t → Sound dims base rotation elements limit (ps ++ p ∷ []) (suc p) (cond t (taken zeroElement dims base elements 0 (s .read) p s) (taken zeroElement dims base elements (zerosBefore rotation dims (s .written .free) (p * base)) (p * base) p s))
         go true e = taken-sound 0 (s .read) (joins-ready (leb-true (p * base) (s .read) e))
         go false e = taken-sound (zerosBefore rotation dims (s .written .free) (p * base)) (p * base) (starts-ready (leb-false (p * base) (s .read) e))

@@ -40,6 +40,13 @@ holds-index (q ∷ ps) p d h = go (eqb q p) refl h (holds-index ps p d)
     go true e h f = (0, omega arith, eqb-true q p e)
     go false e h f = let r = f h in (suc (r .0), omega (arith, r .1), r .2)
 
+pub holds-none : (location : List ℕ) (p d : ℕ) → ((i : ℕ) → i < length location → ¬ (getD location i d ≡ p)) → holds location p ≡ false
+holds-none location p d h = go (holds location p) refl
+  where
+    go : (t : Bool) → holds location p ≡ t → t ≡ false
+    go true e = let r = holds-index location p d e in absurd (h (r .0) (r .1) (r .2))
+    go false e = refl
+
 holds-last : (ps : List ℕ) (p q : ℕ) → holds (ps ++ p ∷ []) q ≡ cond (holds ps q) true (eqb p q)
 unfolding holds
 holds-last [] p q = go (eqb p q)
@@ -174,7 +181,7 @@ module _ {E : Type 0} (zeroElement : E) (dims base : ℕ) (rotation : Bool) (ele
           last-next = omega arith;
           last-free = omega arith;
           last-same = refl;
-          olds = refl;
+          olds-met = refl;
           kept = tt;
           ranked = tt;
         }
@@ -196,7 +203,7 @@ module _ {E : Type 0} (zeroElement : E) (dims base : ℕ) (rotation : Bool) (ele
           last-next = omega (arith, sound .last-next);
           last-free = sound .last-free;
           last-same = sound .last-same;
-          olds = sound .olds;
+          olds-met = sound .olds-met;
           kept =
               each-map
               (λ m k. record { ends = k .ends; same = k .same; same-turn = k .same-turn; older = omega (arith, k .older) })

@@ -11,7 +11,7 @@ pub record Progress (E : Type 0) : Type 0 where
   pub written : Written E
   pub read : ℕ
 
-module _ {E : Type 0} (zeroElement : E) (dims base : ℕ) (rotation : Bool) (elements : List E) where
+module _ {E : Type 0} (zeroElement : E) (dims base : ℕ) (elements : List E) where
   -- the elements from `from` to the end of the point at `place` are copied down after some zeros; the point ends where writing does
   unfoldable pub taken : (zeros from place : ℕ) → Progress E → Progress E
   taken zeros from place s =
@@ -22,12 +22,13 @@ module _ {E : Type 0} (zeroElement : E) (dims base : ℕ) (rotation : Bool) (ele
         read = place * base + dims;
       }
 
+module _ {E : Type 0} (zeroElement : E) (dims base : ℕ) (rotation : Bool) (elements : List E) where
   -- a point that starts at or before the end of what was read goes on the block; any other starts one
   unfoldable pub step : Progress E → ℕ → Progress E
   step s place =
       cond (leb (place * base) (s .read))
-      (taken 0 (s .read) place s)
-      (taken (zerosBefore rotation dims (s .written .free) (place * base)) (place * base) place s)
+      (taken zeroElement dims base elements 0 (s .read) place s)
+      (taken zeroElement dims base elements (zerosBefore rotation dims (s .written .free) (place * base)) (place * base) place s)
 
   unfoldable pub stepsFrom : Progress E → List ℕ → Progress E
   stepsFrom s [] = s

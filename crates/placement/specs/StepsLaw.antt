@@ -28,7 +28,7 @@ module _ {E : Type 0} (zeroElement : E) (dims base : ℕ) (rotation : Bool) (ele
 
     -- a step that goes on a block leaves what the longer block would
     joins : block .start ≤ block .end → block .start ≤ p * base → block .end ≤ p * base + dims
-        → taken zeroElement dims base rotation elements 0 (block .end) p (after w block) ≡ after w longer
+        → taken zeroElement dims base elements 0 (block .end) p (after w block) ≡ after w longer
     unfolding taken blockDown copiedDown blockMoves
     joins h k l =
         let s : ℕ = block .start in
@@ -50,7 +50,7 @@ module _ {E : Type 0} (zeroElement : E) (dims base : ℕ) (rotation : Bool) (ele
 
   -- a step that starts a block leaves what the block of its one point does
   starts : (s : Progress E) (p : ℕ)
-      → taken zeroElement dims base rotation elements (zerosBefore rotation dims (s .written .free) (p * base)) (p * base) p s
+      → taken zeroElement dims base elements (zerosBefore rotation dims (s .written .free) (p * base)) (p * base) p s
       ≡ after (s .written) (record { start = p * base; end = p * base + dims; places = p ∷ [] })
   unfolding taken blockDown copiedDown blockMoves
   starts s p =
@@ -90,7 +90,7 @@ module _ {E : Type 0} (zeroElement : E) (dims base : ℕ) (rotation : Bool) (ele
   first h p = go (leb (p * base) 0) refl ∙ starts (record { written = nothingWritten; read = 0 }) p
     where
       from : ℕ → ℕ → Progress E
-      from zeros start = taken zeroElement dims base rotation elements zeros start p (record { written = nothingWritten; read = 0 })
+      from zeros start = taken zeroElement dims base elements zeros start p (record { written = nothingWritten; read = 0 })
 
       go : (t : Bool) → leb (p * base) 0 ≡ t → cond t (from 0 0) (from (zerosBefore rotation dims 0 (p * base)) (p * base)) ≡ from (zerosBefore rotation dims 0 (p * base)) (p * base)
       go true e =
