@@ -19,4 +19,5 @@ pub mod CompactionLaws
 pub mod Alike
 pub mod LayingLaws
 pub mod InPlace
+pub mod NoLater
 pub mod Windows

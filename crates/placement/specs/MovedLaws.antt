@@ -68,7 +68,8 @@ moved-this (l ∷ ms) m h = go (eqb (l .old) (m .old)) h (moved-this ms m)
     go true h ih = absurd (true≢false h)
     go false h ih = ih h
 
-getD-map : (f : ℕ → ℕ) (l : List ℕ) (i d e : ℕ) → i < length l → getD (map f l) i d ≡ f (getD l i e)
+-- `List·getD-map` for an index in range, whatever the default
+pub getD-map : (f : ℕ → ℕ) (l : List ℕ) (i d e : ℕ) → i < length l → getD (map f l) i d ≡ f (getD l i e)
 getD-map f [] i d e h = absurd (omega arith)
 getD-map f (x ∷ l) zero d e h = refl
 getD-map f (x ∷ l) (suc i) d e h = getD-map f l i d e (omega arith)
