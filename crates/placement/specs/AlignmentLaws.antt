@@ -1,5 +1,5 @@
 -- The wrapping sum of `alignment` is the true one, and what the zeros before a block do.
-use mathlib.Core.Bool.{Bool, true, false, cond}
+use mathlib.Core.Bool.{Bool, true, false, cond, false≢true}
 use mathlib.Core.Path.{_≡_, ap, _∙_}
 use Prim.Native.Nat.{ℕ, _+_, _*_, _-_, _%_, _/_, _^_, _≤_, _<_, _∣_}
 use native.Mathlib.Nat.{add-mod-left, mod-le, mod-lt, mod-add-div, dvd-zero, dvd-sub, dvd-mul-right, dvd-mod-iff, le-of-dvd}
@@ -42,7 +42,7 @@ zeros-aligned false dims base free start h k d bd bf bs =
       behind = omega arith;
       few = omega arith;
       whole = dvd-zero base;
-      same-turn = λ e. let z : _≡_ {A = ℕ} 0 1 = cc in absurd (omega arith);
+      same-turn = λ e. absurd (false≢true e);
     }
 zeros-aligned true dims base free start h k d bd bf bs =
     rw (alignment-difference dims free start h k)

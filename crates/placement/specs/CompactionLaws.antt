@@ -1,9 +1,9 @@
 -- What compaction keeps, on places and a free start as a well-formed store has them.
-use mathlib.Core.Bool.{Bool, true, false, cond, true≢false, false≢true}
-use mathlib.Core.List.{List, [], _∷_, _++_, map}
+use mathlib.Core.Bool.{Bool, true, false}
+use mathlib.Core.List.{List, map}
 use mathlib.Core.Logic.{_⊎_}
 use mathlib.Core.Path.{_≡_, refl, sym, ap, subst, subst⁻¹, _∙_}
-use Prim.Native.Nat.{ℕ, zero, suc, _+_, _*_, _-_, _/_, _%_, _^_, _≤_, _<_, _∣_}
+use Prim.Native.Nat.{ℕ, _+_, _*_, _/_, _%_, _≤_, _<_, _∣_}
 use native.Mathlib.Nat.{le-of-dvd, mul-le-mul-right, le-div-iff-mul-le, div-le-self, le-trans}
 use native.Mathlib.Decide.{decLt}
 use native.Mathlib.Omega.{arith}
@@ -13,12 +13,12 @@ use Rattle.placement.specs.Row.{piece}
 use Rattle.placement.specs.Pieces.{piece-front}
 use Rattle.placement.specs.AlignmentLaws.{pointRoom}
 use Rattle.placement.specs.Copying.{turn, copied}
-use Rattle.placement.specs.Compaction.{Move, Written, Layout, holds, liveBelow, liveCount, moved, settled, writtenByBlocks, compacted}
+use Rattle.placement.specs.Compaction.{Written, Layout, holds, liveBelow, liveCount, moved, settled, compacted}
 use Rattle.placement.specs.MovedLaws.{olds, moved-each, unmoved, moved-rank}
-use Rattle.placement.specs.Places.{Shaped, Live, WellPlaced, Distinct}
+use Rattle.placement.specs.Places.{Live, WellPlaced, Distinct}
 use Rattle.placement.specs.ProgressLaws.{Kept, Sound}
 use Rattle.placement.specs.Scan.{holds-at, holds-index, live-rising, live-met, live-count, scan-sound}
-use Rattle.placement.specs.Steps.{Progress, steps}
+use Rattle.placement.specs.Steps.{steps}
 use Rattle.placement.specs.StepsLaw.{steps-are-blocks}
 
 -- what compaction keeps

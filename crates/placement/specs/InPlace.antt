@@ -1,20 +1,17 @@
 -- A step of compaction on the elements and places where they stand: zeros are filled in at the write position, elements are copied
 -- down from further up in the same list, and one place is set. Reading what is already partly overwritten is reading what stood
 -- there before, since writing stays behind reading.
-use mathlib.Core.Bool.{Bool, true, false, cond, true≢false, false≢true}
-use mathlib.Core.List.{List, [], _∷_, _++_, map, map-id}
-use mathlib.Core.Path.{_≡_, refl, sym, ap, subst, _∙_}
-use Prim.Native.Nat.{ℕ, zero, suc, _+_, _*_, _-_, _/_, _≤_, _<_}
+use mathlib.Core.Bool.{Bool, true, false}
+use mathlib.Core.List.{List, _++_, map-id}
+use mathlib.Core.Path.{_≡_, refl, sym, ap, _∙_}
+use Prim.Native.Nat.{ℕ, suc, _+_, _*_, _-_, _/_, _≤_, _<_}
 use native.Mathlib.Nat.{le-of-lt, le-of-eq}
-use native.Mathlib.Decide.{ℕ-discrete}
 use native.Mathlib.Omega.{arith}
-use borrow.Author.Tests.{le-leb, lt-leb, eq-eqb, ne-eqb}
-use lib.Dec.{leb, eqb}
+use borrow.Author.Tests.{le-leb, lt-leb}
 use lib.ListN.{length, take, drop, getD, set, replicate, length-append, length-drop, length-replicate, getD-replicate}
 use lib.Seq.{paste, paste-suc, length-paste-head, getD-append-add, getD-drop, take-all, take-at, drop-append-add, drop-drop}
 use Rattle.placement.specs.Alignment.{zerosBefore}
-use Rattle.placement.specs.Row.{piece}
-use Rattle.placement.specs.Compaction.{Move, Written, Layout, nothingWritten, holds, moved, settled, copiedDown}
+use Rattle.placement.specs.Compaction.{nothingWritten, holds, moved, settled, copiedDown}
 use Rattle.placement.specs.MovedLaws.{olds, moved-each, places-next}
 use Rattle.placement.specs.Places.{Live, Distinct}
 use Rattle.placement.specs.ProgressLaws.{Kept, Sound}

@@ -1,14 +1,14 @@
 -- What laying a row keeps, and what it leaves at the row's place.
-use mathlib.Core.Bool.{Bool, true, false, cond, true≢false, false≢true}
-use mathlib.Core.List.{List, [], _∷_, _++_, append-assoc}
+use mathlib.Core.Bool.{Bool, true, false, cond, false≢true}
+use mathlib.Core.List.{List, _++_, append-assoc}
 use mathlib.Core.Path.{_≡_, refl, sym, ap, subst, _∙_}
-use Prim.Native.Nat.{ℕ, zero, suc, _+_, _*_, _-_, _/_, _≤_, _<_, _∣_}
+use Prim.Native.Nat.{ℕ, _+_, _*_, _-_, _/_, _≤_, _<_, _∣_}
 use native.Mathlib.Nat.{sub-self, le-refl, le-of-lt, le-of-eq, dvd-refl, dvd-add, dvd-sub, div-mul-cancel, le-of-dvd}
 use native.Mathlib.Decide.{ℕ-discrete}
 use native.Mathlib.Omega.{arith}
 use borrow.Author.Tests.{ltb-true}
 use lib.Dec.{ltb}
-use lib.ListN.{length, getD, set, length-set, take, drop, take-append-drop, length-drop, length-append}
+use lib.ListN.{length, getD, set, length-set, take, drop, take-append-drop, length-drop}
 use lib.Seq.{getD-set-same, getD-set-other, paste, length-paste, drop-paste, length-take-le, take-all, take-at, drop-at}
 use Rattle.terms.specs.Rows.{allEqual}
 use Rattle.placement.specs.Alike.{Alike, alike-refl, alike-append, equal-alike}

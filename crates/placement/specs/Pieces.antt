@@ -1,11 +1,11 @@
 -- List facts about `piece`: pieces that meet, and a piece of a longer list.
 use mathlib.Core.List.{List, [], _∷_, _++_}
-use mathlib.Core.Path.{_≡_, refl, sym, ap, _∙_}
-use Prim.Native.Nat.{ℕ, zero, suc, _+_, _-_, _≤_, _<_}
+use mathlib.Core.Path.{_≡_, sym, ap, _∙_}
+use Prim.Native.Nat.{ℕ, zero, suc, _+_, _-_, _≤_}
 use native.Mathlib.Nat.{suc-add, zero-add}
 use native.Mathlib.Omega.{arith}
 use lib.ListN.{length, take, drop, length-take, length-drop}
-use lib.Seq.{take-add, drop-drop, drop-append-le, take-append-le, drop-nil, take-nil}
+use lib.Seq.{take-add, drop-drop, drop-append-le, take-append-le, take-nil}
 use Rattle.placement.specs.Row.{piece}
 
 module _ {E : Type 0} where

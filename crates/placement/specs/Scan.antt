@@ -2,15 +2,15 @@
 use mathlib.Core.Bool.{Bool, true, false, cond, true≢false, false≢true}
 use mathlib.Core.List.{List, [], _∷_, _++_}
 use mathlib.Core.Logic.{inl}
-use mathlib.Core.Path.{_≡_, refl, sym, ap, subst, _∙_}
-use Prim.Native.Nat.{ℕ, zero, suc, _+_, _*_, _-_, _/_, _^_, _≤_, _<_}
+use mathlib.Core.Path.{_≡_, refl, sym, ap, _∙_}
+use Prim.Native.Nat.{ℕ, zero, suc, _+_, _*_, _^_, _≤_, _<_}
 use native.Mathlib.Nat.{dvd-zero, le-of-dvd, le-trans}
 use native.Mathlib.Decide.{ℕ-discrete}
 use native.Mathlib.Omega.{arith}
 use borrow.Author.Tests.{eq-eqb, eqb-true, eqb-false, lt-ltb, le-ltb, ltb-true, ltb-false}
 use lib.Dec.{ltb, eqb}
 use lib.ListN.{length, getD, length-append}
-use Rattle.placement.specs.Compaction.{Move, Written, nothingWritten, holds, liveBelow, liveCount}
+use Rattle.placement.specs.Compaction.{nothingWritten, holds, liveBelow, liveCount}
 use Rattle.placement.specs.Order.{Each, Rising, each-map, each-last, rising-last}
 use Rattle.placement.specs.Places.{Shaped}
 use Rattle.placement.specs.ProgressLaws.{Sound, step-sound}

@@ -1,6 +1,6 @@
 -- Compaction by steps in order of place (document 02, Point 3): a step is given the next live place and no later one.
 use mathlib.Core.Bool.{Bool, cond}
-use mathlib.Core.List.{List, [], _∷_, _++_}
+use mathlib.Core.List.{List, [], _∷_}
 use Prim.Native.Nat.{ℕ, _+_, _*_, _-_, _/_}
 use lib.Dec.{leb}
 use Rattle.placement.specs.Alignment.{zerosBefore}

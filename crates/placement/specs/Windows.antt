@@ -87,6 +87,9 @@ record Windows : Type 0 where
   h : layoutH .free ≡ 6
   h-joins : overlaps eqb 2 2 6 (layoutH .elements) (9 ∷ 9 ∷ 9 ∷ 9 ∷ []) ≡ false
   h-passes : ltb (grown 8 0 8) (layoutH .free + writtenCount 4 2 false) ≡ true
+  -- run only: a table of 4 does not grow, and one of 5 gets a sixth index
+  four : grown 4 0 10 ≡ 4
+  sixth : grown 5 0 10 ≡ 6
   -- run only: in H the last row 5 6 9 9 joins
   h-run : lay (record { elements = layoutH .elements; free = 6; laid = Whole 0 }) (5 ∷ 6 ∷ 9 ∷ 9 ∷ []) ≡ record { elements = 0 ∷ 0 ∷ 3 ∷ 4 ∷ 5 ∷ 6 ∷ 9 ∷ 9 ∷ []; free = 8; laid = Joined 2 }
 
@@ -107,5 +110,7 @@ windows =
       h = refl;
       h-joins = refl;
       h-passes = refl;
+      four = refl;
+      sixth = refl;
       h-run = refl;
     }
