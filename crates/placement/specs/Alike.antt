@@ -3,10 +3,9 @@ use mathlib.Core.Bool.{Bool, true, false, cond, false≢true}
 use mathlib.Core.List.{List, [], _∷_, _++_}
 use mathlib.Core.Logic.{_⊎_, inl, inr}
 use mathlib.Core.Path.{_≡_, refl}
-use Prim.Native.Nat.{ℕ, zero, suc, _-_}
+use Prim.Native.Nat.{ℕ, zero, suc}
 use lib.ListN.{take, drop}
 use Rattle.terms.specs.Rows.{allEqual}
-use Rattle.placement.specs.Copying.{turned}
 
 -- each element is the same, or equal by `eq`
 abbrev pub Alike : {E : Type 0} → (E → E → Bool) → List E → List E → Type 0
@@ -37,22 +36,16 @@ module _ {E : Type 0} (eq : E → E → Bool) where
       go true e h ih = (inr e, ih h)
       go false e h ih = absurd (false≢true h)
 
-  alike-take : (n : ℕ) (xs ys : List E) → Alike eq xs ys → Alike eq (take n xs) (take n ys)
+  pub alike-take : (n : ℕ) (xs ys : List E) → Alike eq xs ys → Alike eq (take n xs) (take n ys)
   alike-take zero xs ys h = tt
   alike-take (suc n) [] [] h = tt
   alike-take (suc n) [] (y ∷ ys) h = absurd h
   alike-take (suc n) (x ∷ xs) [] h = absurd h
   alike-take (suc n) (x ∷ xs) (y ∷ ys) h = (h .0, alike-take n xs ys (h .1))
 
-  alike-drop : (n : ℕ) (xs ys : List E) → Alike eq xs ys → Alike eq (drop n xs) (drop n ys)
+  pub alike-drop : (n : ℕ) (xs ys : List E) → Alike eq xs ys → Alike eq (drop n xs) (drop n ys)
   alike-drop zero xs ys h = h
   alike-drop (suc n) [] [] h = tt
   alike-drop (suc n) [] (y ∷ ys) h = absurd h
   alike-drop (suc n) (x ∷ xs) [] h = absurd h
   alike-drop (suc n) (x ∷ xs) (y ∷ ys) h = alike-drop n xs ys (h .1)
-
-  -- and so are they turned
-  pub alike-turned : (dims t : ℕ) (xs ys : List E) → Alike eq xs ys → Alike eq (turned dims t xs) (turned dims t ys)
-  unfolding turned
-  alike-turned dims t xs ys h =
-      alike-append (drop (dims - t) xs) (drop (dims - t) ys) (take (dims - t) xs) (take (dims - t) ys) (alike-drop (dims - t) xs ys h) (alike-take (dims - t) xs ys h)

@@ -12,6 +12,8 @@ use lib.ListN.{length, getD, set, length-set, take, drop, take-append-drop, leng
 use lib.Seq.{getD-set-same, getD-set-other, paste, length-paste, drop-paste, length-take-le, take-all, take-at, drop-at}
 use Rattle.terms.specs.Rows.{allEqual}
 use Rattle.placement.specs.Alike.{Alike, alike-refl, alike-append, equal-alike}
+use Rattle.placement.specs.Copying.{turn, turned, copied}
+use Rattle.placement.specs.CopyingLaws.{alike-turned}
 use Rattle.placement.specs.Laying.{writtenCount, laidAs, laidElements, laidFree, placeOf}
 use Rattle.placement.specs.Overlap.{overlaps}
 use Rattle.placement.specs.Pieces.{piece-join, piece-front}
@@ -138,6 +140,23 @@ module _ {E : Type 0} (eq : E → E → Bool) (dims base shingle free : ℕ) (el
                 (subst (Alike eq (piece (free - (dims - n)) (dims - n) elements ++ last)) (take-append-drop (dims - n) row)
                 (alike-append eq (piece (free - (dims - n)) (dims - n) elements) (take (dims - n) row) last last (shared joined e .1) (alike-refl eq last)));
           }
+
+-- ---- copies afterwards
+
+module _ {E : Type 0} (eq : E → E → Bool) (dims base : ℕ) (joined : Bool) (free : ℕ) (elements row after : List E) (down : LaidDown eq dims base joined free elements row after) (rotation : Bool) where
+  -- the new point's copy is the row, turned
+  pub copy-laid : Alike eq (copied rotation dims base (placeOf (laidAs dims base joined free)) after) (turned dims (turn rotation dims base (placeOf (laidAs dims base joined free))) row)
+  unfolding copied
+  copy-laid =
+      alike-turned eq dims (turn rotation dims base (placeOf (laidAs dims base joined free)))
+      (piece (placeOf (laidAs dims base joined free) * base) dims after)
+      row
+      (down .same)
+
+  -- any other point's copy is what it was
+  pub copy-before : (place : ℕ) → place * base + dims ≤ free → copied rotation dims base place after ≡ copied rotation dims base place elements
+  unfolding copied
+  copy-before place h = rw (down .before-kept (place * base) dims h)
 
 -- ---- the places afterwards: index i has the new point
 
