@@ -2,22 +2,22 @@
 use mathlib.Core.Bool.{Bool, true, false}
 use mathlib.Core.List.{List, map}
 use mathlib.Core.Logic.{_⊎_}
-use mathlib.Core.Path.{_≡_, refl, sym, ap, subst, subst⁻¹, _∙_}
+use mathlib.Core.Path.{_≡_, refl, sym, ap, subst⁻¹, _∙_}
 use Prim.Native.Nat.{ℕ, _+_, _*_, _/_, _%_, _≤_, _<_, _∣_}
-use native.Mathlib.Nat.{le-of-dvd, mul-le-mul-right, le-div-iff-mul-le, div-le-self, le-trans}
+use native.Mathlib.Nat.{le-refl, le-of-dvd, mul-le-mul-right, le-div-iff-mul-le, div-le-self, le-trans}
 use native.Mathlib.Decide.{decLt}
 use native.Mathlib.Omega.{arith}
-use lib.ListN.{length, drop, getD, length-append, length-drop, length-map, List·getD-map}
+use lib.ListN.{length, drop, getD, length-map, List·getD-map}
 use lib.Seq.{drop-at}
 use Rattle.placement.specs.Row.{piece}
-use Rattle.placement.specs.Pieces.{piece-front}
+use Rattle.placement.specs.Pieces.{piece-front, length-front}
 use Rattle.placement.specs.AlignmentLaws.{pointRoom}
 use Rattle.placement.specs.Copying.{turn, copied}
 use Rattle.placement.specs.Compaction.{Written, Layout, holds, liveBelow, liveCount, moved, settled, compacted}
 use Rattle.placement.specs.MovedLaws.{olds, moved-each, unmoved, moved-rank}
 use Rattle.placement.specs.Places.{Live, WellPlaced, Distinct}
 use Rattle.placement.specs.ProgressLaws.{Kept, Sound}
-use Rattle.placement.specs.Scan.{holds-at, holds-index, live-rising, live-met, live-count, scan-sound}
+use Rattle.placement.specs.Scan.{holds-at, live-rising, live-met, live-count, well-sound}
 use Rattle.placement.specs.Steps.{steps}
 use Rattle.placement.specs.StepsLaw.{steps-are-blocks}
 
@@ -40,17 +40,9 @@ module _ {E : Type 0} (zeroElement : E) (dims base : ℕ) (rotation : Bool) (ele
   live : List ℕ
   live = liveBelow location (free / base)
 
-  -- every place that the scan meets is that of a point
-  met-ends : (p : ℕ) → p < free / base → holds location p ≡ true → p * base + dims ≤ free
-  met-ends p h e =
-      let found = holds-index location p 65535 e in
-      let below : p < 65535 = omega (arith, div-le-self free base, well .small) in
-      subst (λ (n : ℕ). n * base + dims ≤ free) (found .2)
-      (well .ends (found .0) (record { listed = found .1; placed = λ q. omega (arith, sym (found .2) ∙ q) }))
-
   sound : Sound dims base rotation elements free live (free / base) (steps zeroElement dims base rotation elements live)
   unfolding live
-  sound = scan-sound zeroElement dims base rotation elements free (well .shaped) (omega (arith, well .small)) (well .inside) location (free / base) met-ends
+  sound = well-sound zeroElement dims base rotation elements location free well (free / base) (le-refl (free / base))
 
   -- compaction is what the scan's steps leave
   pub compacted-by-steps : compacted zeroElement dims base rotation elements location free ≡ settled elements location (steps zeroElement dims base rotation elements (liveBelow location (free / base)) .written)
@@ -97,7 +89,7 @@ module _ {E : Type 0} (zeroElement : E) (dims base : ℕ) (rotation : Bool) (ele
   compaction-keeps =
       subst⁻¹ (Compacted dims base rotation location free elements) compacted-by-steps
       (record {
-        length-kept = length-append (w .front) (drop (w .free) elements) ∙ rw (sound .counted, length-drop) (omega (arith, sound .behind, sound .inside, well .inside));
+        length-kept = length-front elements (w .front) (w .free) (sound .counted) (omega (arith, sound .behind, sound .inside, well .inside));
         indices-kept = length-map location (moved (w .moves));
         rest-kept = drop-at (w .front) (drop (w .free) elements) (w .free) (sound .counted);
         free-started = sound .started;

@@ -9,7 +9,7 @@ use Rattle.placement.specs.Row.{piece}
 unfoldable pub turn : Bool → (dims base place : ℕ) → ℕ
 turn rotation dims base place = cond rotation (place * base % dims) 0
 
--- 'Entry (i + t) mod dimensions is stored float i': the last t stored elements come first (`turned-entry` has the sentence itself)
+-- 'Entry (i + t) mod dimensions is stored float i': the last t stored elements come first (`copied-entry` is the sentence itself)
 unfoldable pub turned : {E : Type 0} → (dims t : ℕ) → List E → List E
 turned dims t stored = drop (dims - t) stored ++ take (dims - t) stored
 

@@ -19,5 +19,6 @@ pub mod CompactionLaws
 pub mod Alike
 pub mod LayingLaws
 pub mod InPlace
+pub mod Scanned
 pub mod NoLater
 pub mod Windows

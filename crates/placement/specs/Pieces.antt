@@ -4,7 +4,7 @@ use mathlib.Core.Path.{_≡_, sym, ap, _∙_}
 use Prim.Native.Nat.{ℕ, zero, suc, _+_, _-_, _≤_}
 use native.Mathlib.Nat.{suc-add, zero-add}
 use native.Mathlib.Omega.{arith}
-use lib.ListN.{length, take, drop, length-take, length-drop}
+use lib.ListN.{length, take, drop, length-take, length-drop, length-append}
 use lib.Seq.{take-add, drop-drop, drop-append-le, take-append-le, take-nil}
 use Rattle.placement.specs.Row.{piece}
 
@@ -35,3 +35,7 @@ module _ {E : Type 0} where
   piece-front at n xs ys h =
       ap (take n) (drop-append-le at xs ys (omega arith))
       ∙ take-append-le n (drop at xs) ys (simp length-drop (omega arith))
+
+  -- a list whose first elements are replaced by as many
+  pub length-front : (l front : List E) (n : ℕ) → length front ≡ n → n ≤ length l → length (front ++ drop n l) ≡ length l
+  length-front l front n counted inside = length-append front (drop n l) ∙ rw (counted, length-drop) (omega arith)

@@ -2,9 +2,9 @@
 use mathlib.Core.Bool.{Bool, true, false, cond, true≢false, false≢true}
 use mathlib.Core.List.{List, [], _∷_, _++_}
 use mathlib.Core.Logic.{inl}
-use mathlib.Core.Path.{_≡_, refl, sym, ap, _∙_}
-use Prim.Native.Nat.{ℕ, zero, suc, _+_, _*_, _^_, _≤_, _<_}
-use native.Mathlib.Nat.{dvd-zero, le-of-dvd, le-trans}
+use mathlib.Core.Path.{_≡_, refl, sym, ap, subst, _∙_}
+use Prim.Native.Nat.{ℕ, zero, suc, _+_, _*_, _/_, _^_, _≤_, _<_}
+use native.Mathlib.Nat.{dvd-zero, le-of-dvd, le-trans, div-le-self}
 use native.Mathlib.Decide.{ℕ-discrete}
 use native.Mathlib.Omega.{arith}
 use borrow.Author.Tests.{eq-eqb, eqb-true, eqb-false, lt-ltb, le-ltb, ltb-true, ltb-false}
@@ -12,7 +12,7 @@ use lib.Dec.{ltb, eqb}
 use lib.ListN.{length, getD, length-append}
 use Rattle.placement.specs.Compaction.{nothingWritten, holds, liveBelow, liveCount}
 use Rattle.placement.specs.Order.{Each, Rising, each-map, each-last, rising-last}
-use Rattle.placement.specs.Places.{Shaped}
+use Rattle.placement.specs.Places.{Shaped, WellPlaced}
 use Rattle.placement.specs.ProgressLaws.{Sound, step-sound}
 use Rattle.placement.specs.Steps.{Progress, step, stepsFrom, steps}
 
@@ -213,7 +213,7 @@ module _ {E : Type 0} (zeroElement : E) (dims base : ℕ) (rotation : Bool) (ele
         }
 
     -- the scan up to place q, where every live place that it meets ends by `limit`
-    pub scan-sound : (location : List ℕ) (q : ℕ) → ((p : ℕ) → p < q → holds location p ≡ true → p * base + dims ≤ limit)
+    scan-sound : (location : List ℕ) (q : ℕ) → ((p : ℕ) → p < q → holds location p ≡ true → p * base + dims ≤ limit)
         → Sound dims base rotation elements limit (liveBelow location q) q (steps zeroElement dims base rotation elements (liveBelow location q))
     unfolding liveBelow
     scan-sound location zero ends = none-sound
@@ -227,3 +227,18 @@ module _ {E : Type 0} (zeroElement : E) (dims base : ℕ) (rotation : Bool) (ele
             rw (steps-next (liveBelow location q) q)
             (step-sound zeroElement dims base rotation elements limit shaped small inside (liveBelow location q) q (steps zeroElement dims base rotation elements (liveBelow location q)) sound q (omega arith) (ends q (omega arith) e))
         go false e sound = passed (liveBelow location q) q (steps zeroElement dims base rotation elements (liveBelow location q)) sound
+
+  -- on a store that is well placed, up to the last place that a point can have
+  module _ (location : List ℕ) (free : ℕ) (well : WellPlaced dims base location free (length elements)) where
+    -- every place that the scan meets is that of a point
+    met-ends : (p : ℕ) → p < free / base → holds location p ≡ true → p * base + dims ≤ free
+    met-ends p h e =
+        let found = holds-index location p 65535 e in
+        let below : p < 65535 = omega (arith, div-le-self free base, well .small) in
+        subst (λ (n : ℕ). n * base + dims ≤ free) (found .2)
+        (well .ends (found .0) (record { listed = found .1; placed = λ q. omega (arith, sym (found .2) ∙ q) }))
+
+    pub well-sound : (q : ℕ) → q ≤ free / base → Sound dims base rotation elements free (liveBelow location q) q (steps zeroElement dims base rotation elements (liveBelow location q))
+    well-sound q h =
+        scan-sound free (well .shaped) (omega (arith, well .small)) (well .inside) location q
+        (λ p k. met-ends p (omega arith))
