@@ -16,13 +16,13 @@ use Rattle.placement.specs.Copying.{turn, copied}
 use Rattle.placement.specs.Compaction.{Written, Layout, holds, liveBelow, liveCount, moved, settled, compacted}
 use Rattle.placement.specs.MovedLaws.{olds, moved-each, unmoved, moved-rank}
 use Rattle.placement.specs.Places.{Live, WellPlaced, Distinct}
-use Rattle.placement.specs.ProgressLaws.{Kept, Sound}
+use Rattle.placement.specs.ProgressLaws.{PointKept, Sound}
 use Rattle.placement.specs.Scan.{holds-at, live-rising, live-met, live-count, well-sound}
 use Rattle.placement.specs.Steps.{steps}
 use Rattle.placement.specs.StepsLaw.{steps-are-blocks}
 
 -- what compaction keeps
-pub record Compacted {E : Type 0} (dims base : ℕ) (rotation : Bool) (location : List ℕ) (free : ℕ) (elements : List E) (after : Layout E) : Type 0 where
+pub record CompactionKeeps {E : Type 0} (dims base : ℕ) (rotation : Bool) (location : List ℕ) (free : ℕ) (elements : List E) (after : Layout E) : Type 0 where
   pub length-kept : length (after .elements) ≡ length elements
   pub indices-kept : length (after .location) ≡ length location
   pub rest-kept : drop (after .free) (after .elements) ≡ drop (after .free) elements
@@ -61,9 +61,9 @@ module _ {E : Type 0} (zeroElement : E) (dims base : ℕ) (rotation : Bool) (ele
   w = steps zeroElement dims base rotation elements live .written
 
   -- the move of the point at index i
-  moved-kept : (i : ℕ) → Live location i → Kept dims base rotation elements (free / base) (w .front) (w .free) (record { old = getD location i 65535; new = moved (w .moves) (getD location i 65535) })
+  moved-kept : (i : ℕ) → Live location i → PointKept dims base rotation elements (free / base) (w .front) (w .free) (record { old = getD location i 65535; new = moved (w .moves) (getD location i 65535) })
   moved-kept i l =
-      moved-each (Kept dims base rotation elements (free / base) (w .front) (w .free)) (w .moves) (getD location i 65535) (sound .kept)
+      moved-each (PointKept dims base rotation elements (free / base) (w .front) (w .free)) (w .moves) (getD location i 65535) (sound .kept)
       (rw (sound .olds-met) (met i l))
 
   -- an empty place is moved by none
@@ -72,7 +72,7 @@ module _ {E : Type 0} (zeroElement : E) (dims base : ℕ) (rotation : Bool) (ele
     where
       go : (t : Bool) → holds (olds (w .moves)) 65535 ≡ t → moved (w .moves) 65535 ≡ 65535
       go true e =
-          let k : Kept dims base rotation elements (free / base) (w .front) (w .free) (record { old = 65535; new = moved (w .moves) 65535 }) = moved-each (Kept dims base rotation elements (free / base) (w .front) (w .free)) (w .moves) 65535 (sound .kept) e in
+          let k : PointKept dims base rotation elements (free / base) (w .front) (w .free) (record { old = 65535; new = moved (w .moves) 65535 }) = moved-each (PointKept dims base rotation elements (free / base) (w .front) (w .free)) (w .moves) 65535 (sound .kept) e in
           absurd (omega (arith, k .older, div-le-self free base, well .small))
       go false e = unmoved (w .moves) 65535 e
 
@@ -84,10 +84,10 @@ module _ {E : Type 0} (zeroElement : E) (dims base : ℕ) (rotation : Bool) (ele
   turn-same true p q h = h refl
   turn-same false p q h = refl
 
-  pub compaction-keeps : Compacted dims base rotation location free elements (compacted zeroElement dims base rotation elements location free)
+  pub compaction-keeps : CompactionKeeps dims base rotation location free elements (compacted zeroElement dims base rotation elements location free)
   unfolding settled live
   compaction-keeps =
-      subst⁻¹ (Compacted dims base rotation location free elements) compacted-by-steps
+      subst⁻¹ (CompactionKeeps dims base rotation location free elements) compacted-by-steps
       (record {
         length-kept = length-front elements (w .front) (w .free) (sound .counted) (omega (arith, sound .behind, sound .inside, well .inside));
         indices-kept = length-map location (moved (w .moves));
@@ -105,7 +105,7 @@ module _ {E : Type 0} (zeroElement : E) (dims base : ℕ) (rotation : Bool) (ele
 
 -- ---- what follows from it
 
-module _ {E : Type 0} (dims base : ℕ) (rotation : Bool) (location : List ℕ) (free : ℕ) (elements : List E) (after : Layout E) (well : WellPlaced dims base location free (length elements)) (kept : Compacted dims base rotation location free elements after) where
+module _ {E : Type 0} (dims base : ℕ) (rotation : Bool) (location : List ℕ) (free : ℕ) (elements : List E) (after : Layout E) (well : WellPlaced dims base location free (length elements)) (kept : CompactionKeeps dims base rotation location free elements after) where
   -- no point comes into being
   was-live : (i : ℕ) → Live (after .location) i → Live location i
   was-live i l = record { listed = rw (kept .indices-kept) at (l .listed); placed = λ e. l .placed (kept .empty-kept i e) }

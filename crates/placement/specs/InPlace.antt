@@ -14,7 +14,7 @@ use Rattle.placement.specs.Alignment.{zerosBefore}
 use Rattle.placement.specs.Compaction.{nothingWritten, holds, moved, settled, copiedDown}
 use Rattle.placement.specs.MovedLaws.{olds, moved-each, places-next}
 use Rattle.placement.specs.Places.{Live, Distinct}
-use Rattle.placement.specs.ProgressLaws.{Kept, Sound}
+use Rattle.placement.specs.ProgressLaws.{PointKept, Sound}
 use Rattle.placement.specs.Steps.{Progress, taken, step}
 
 module _ {E : Type 0} where
@@ -107,6 +107,6 @@ module _ {E : Type 0} (zeroElement : E) (dims base : ℕ) (rotation : Bool) (ele
     where
       go : (t : Bool) → holds (olds (s .written .moves)) p ≡ t → t ≡ false
       go true e =
-          let k : Kept dims base rotation elements least (s .written .front) (s .written .free) (record { old = p; new = moved (s .written .moves) p }) = moved-each (Kept dims base rotation elements least (s .written .front) (s .written .free)) (s .written .moves) p (sound .kept) e in
+          let k : PointKept dims base rotation elements least (s .written .front) (s .written .free) (record { old = p; new = moved (s .written .moves) p }) = moved-each (PointKept dims base rotation elements least (s .written .front) (s .written .free)) (s .written .moves) p (sound .kept) e in
           absurd (omega (arith, k .older))
       go false e = refl

@@ -21,7 +21,7 @@ use Rattle.placement.specs.Places.{Shaped, Live, WellPlaced, Distinct}
 use Rattle.placement.specs.Row.{piece}
 
 -- what laying keeps, and what it leaves
-pub record LaidDown {E : Type 0} (eq : E → E → Bool) (dims base : ℕ) (joined : Bool) (free : ℕ) (elements row after : List E) : Type 0 where
+pub record LayingKeeps {E : Type 0} (eq : E → E → Bool) (dims base : ℕ) (joined : Bool) (free : ℕ) (elements row after : List E) : Type 0 where
   pub length-kept : length after ≡ length elements
   pub before-kept : (at n : ℕ) → at + n ≤ free → piece at n after ≡ piece at n elements
   pub rest-kept : drop (laidFree dims base joined free) after ≡ drop (laidFree dims base joined free) elements
@@ -124,7 +124,7 @@ module _ {E : Type 0} (eq : E → E → Bool) (dims base shingle free : ℕ) (el
           ∙ ap (λ (l : List E). l ++ piece free n after) (paste-before elements free last n (omega arith) (omega (arith, enough)) (free - k) k (omega arith))
           ∙ ap (λ (l : List E). piece (free - k) k elements ++ l) (piece-paste elements free last n (omega arith) (omega (arith, enough)) ∙ take-all n last (omega (arith, enough)))
 
-      pub laying-keeps : LaidDown eq dims base joined free elements row (laidElements dims base joined free elements row)
+      pub laying-keeps : LayingKeeps eq dims base joined free elements row (laidElements dims base joined free elements row)
       unfolding laidElements laidFree
       laying-keeps =
           let at : placeOf (laidAs dims base joined free) * base ≡ free - (dims - n) = omega (arith, laid-ends joined e, count-within joined) in
@@ -143,7 +143,7 @@ module _ {E : Type 0} (eq : E → E → Bool) (dims base shingle free : ℕ) (el
 
 -- ---- copies afterwards
 
-module _ {E : Type 0} (eq : E → E → Bool) (dims base : ℕ) (joined : Bool) (free : ℕ) (elements row after : List E) (down : LaidDown eq dims base joined free elements row after) (rotation : Bool) where
+module _ {E : Type 0} (eq : E → E → Bool) (dims base : ℕ) (joined : Bool) (free : ℕ) (elements row after : List E) (down : LayingKeeps eq dims base joined free elements row after) (rotation : Bool) where
   -- the new point's copy is the row, turned
   pub copy-laid : Alike eq (copied rotation dims base (placeOf (laidAs dims base joined free)) after) (turned dims (turn rotation dims base (placeOf (laidAs dims base joined free))) row)
   unfolding copied
@@ -160,7 +160,7 @@ module _ {E : Type 0} (eq : E → E → Bool) (dims base : ℕ) (joined : Bool) 
 
 -- ---- the places afterwards: index i has the new point
 
-module _ {E : Type 0} (eq : E → E → Bool) (dims base : ℕ) (joined : Bool) (free : ℕ) (elements row after : List E) (down : LaidDown eq dims base joined free elements row after) (location : List ℕ) (i : ℕ) (well : WellPlaced dims base location free (length elements)) where
+module _ {E : Type 0} (eq : E → E → Bool) (dims base : ℕ) (joined : Bool) (free : ℕ) (elements row after : List E) (down : LayingKeeps eq dims base joined free elements row after) (location : List ℕ) (i : ℕ) (well : WellPlaced dims base location free (length elements)) where
   abbrev place : ℕ
   place = placeOf (laidAs dims base joined free)
 

@@ -22,7 +22,7 @@ use Rattle.placement.specs.Places.{Shaped}
 use Rattle.placement.specs.Steps.{Progress, taken, step}
 
 -- a point that was moved: it ends by the write position, and its elements and its turn are what they were
-pub record Kept {E : Type 0} (dims base : ℕ) (rotation : Bool) (elements : List E) (least : ℕ) (front : List E) (free : ℕ) (m : Move) : Type 0 where
+pub record PointKept {E : Type 0} (dims base : ℕ) (rotation : Bool) (elements : List E) (least : ℕ) (front : List E) (free : ℕ) (m : Move) : Type 0 where
   pub ends : m .new * base + dims ≤ free
   pub same : piece (m .new * base) dims front ≡ piece (m .old * base) dims elements
   pub same-turn : rotation ≡ true → m .new * base % dims ≡ m .old * base % dims
@@ -47,7 +47,7 @@ pub record Sound {E : Type 0} (dims base : ℕ) (rotation : Bool) (elements : Li
   pub last-free : last ≤ s .written .free
   pub last-same : drop (s .written .free - last) (s .written .front) ≡ piece (s .read - last) last elements
   pub olds-met : olds (s .written .moves) ≡ ps
-  pub kept : Each (Kept dims base rotation elements least (s .written .front) (s .written .free)) (s .written .moves)
+  pub kept : Each (PointKept dims base rotation elements least (s .written .front) (s .written .free)) (s .written .moves)
   pub ranked : Ranked (s .written .moves)
 
 module _ {E : Type 0} (zeroElement : E) (dims base : ℕ) (rotation : Bool) (elements : List E) (limit : ℕ) (shaped : Shaped dims base) (small : limit + dims < 2 ^ 64) (inside : limit ≤ length elements) where
@@ -118,7 +118,7 @@ module _ {E : Type 0} (zeroElement : E) (dims base : ℕ) (rotation : Bool) (ele
           let shifted : p * base ≡ m .new * base + d / dims * dims = omega (arith, ends-there, r .low, r .high, r .behind) in
           sym (ap (λ (n : ℕ). n % dims) shifted ∙ add-mul-mod-self-right (m .new * base) (d / dims) dims)
 
-      this-kept : Kept dims base rotation elements (suc p) front f′ m
+      this-kept : PointKept dims base rotation elements (suc p) front f′ m
       this-kept =
           record {
             ends = le-of-eq ends-there;
@@ -128,7 +128,7 @@ module _ {E : Type 0} (zeroElement : E) (dims base : ℕ) (rotation : Bool) (ele
           }
 
       -- the points that were moved before are left alone
-      still-kept : (l : Move) → Kept dims base rotation elements least (s .written .front) f l → Kept dims base rotation elements (suc p) front f′ l
+      still-kept : (l : Move) → PointKept dims base rotation elements least (s .written .front) f l → PointKept dims base rotation elements (suc p) front f′ l
       still-kept l k =
           record {
             ends = omega (arith, k .ends);
@@ -141,7 +141,7 @@ module _ {E : Type 0} (zeroElement : E) (dims base : ℕ) (rotation : Bool) (ele
           }
 
       -- and stand below
-      below : (l : Move) → Kept dims base rotation elements least (s .written .front) f l → Below l m
+      below : (l : Move) → PointKept dims base rotation elements least (s .written .front) f l → Below l m
       below l k =
           (omega (arith, k .older), lt-of-mul-lt-mul-right base (omega (arith, k .ends, ends-there, r .high, shaped .some-base)))
 
@@ -169,7 +169,7 @@ module _ {E : Type 0} (zeroElement : E) (dims base : ℕ) (rotation : Bool) (ele
             last-same = its-elements ∙ ap (λ (n : ℕ). piece n dims elements) (let e : p * base ≡ end - dims = omega arith in e);
             olds-met = map-append (λ (l : Move). l .old) (s .written .moves) (m ∷ []) ∙ ap (λ (l : List ℕ). l ++ p ∷ []) (sound .olds-met);
             kept =
-                each-last (Kept dims base rotation elements (suc p) front f′) (s .written .moves) m
+                each-last (PointKept dims base rotation elements (suc p) front f′) (s .written .moves) m
                 (each-map still-kept (s .written .moves) (sound .kept))
                 this-kept;
             ranked = ranked-last (s .written .moves) m (sound .ranked) (each-map below (s .written .moves) (sound .kept));

@@ -17,13 +17,13 @@ use Rattle.placement.specs.ProgressLaws.{Sound, starts-ready}
 use Rattle.placement.specs.Scan.{holds-at, live-next, live-none, steps-next, well-sound}
 use Rattle.placement.specs.Steps.{Progress, taken, step, stepsFrom, steps}
 
-pub record Scanned (E : Type 0) : Type 0 where
+pub record ScanState (E : Type 0) : Type 0 where
   pub elements : List E
   pub location : List ℕ
   pub free : ℕ
   pub read : ℕ
 
-unfoldable pub shown : {E : Type 0} → List E → List ℕ → Progress E → Scanned E
+unfoldable pub shown : {E : Type 0} → List E → List ℕ → Progress E → ScanState E
 shown elements location s =
     record {
       elements = settled elements location (s .written) .elements;
@@ -33,7 +33,7 @@ shown elements location s =
     }
 
 -- a point that ends at `end` is met: zeros, the elements from `from` on, and the place of index i
-abbrev pub advanced : {E : Type 0} → E → (dims base : ℕ) → (zeros from end i : ℕ) → Scanned E → Scanned E
+abbrev pub advanced : {E : Type 0} → E → (dims base : ℕ) → (zeros from end i : ℕ) → ScanState E → ScanState E
 advanced zeroElement dims base zeros from end i t =
     record {
       elements = copiedWithin (t .free + zeros) from (end - from) (filled zeroElement (t .free) zeros (t .elements));
@@ -44,7 +44,7 @@ advanced zeroElement dims base zeros from end i t =
 
 module _ {E : Type 0} (zeroElement : E) (dims base : ℕ) (rotation : Bool) (elements : List E) (location : List ℕ) where
   -- what the scan of the places below q leaves
-  unfoldable pub scanned : ℕ → Scanned E
+  unfoldable pub scanned : ℕ → ScanState E
   scanned q = shown elements location (steps zeroElement dims base rotation elements (liveBelow location q))
 
   pub scanned-first : scanned 0 ≡ record { elements = elements; location = location; free = 0; read = 0 }

@@ -18,13 +18,13 @@ use Rattle.placement.specs.Alignment.{wrappingSub, wrappingAdd, alignmen
 use Rattle.placement.specs.Compaction.{Layout, holds, liveBelow, moved, grownBlocks, blocks, blockMoves, copiedDown, settled, blockDown, blocksDown, writtenByBlocks, compacted}
 
 -- elements and free start, with how the last row was laid
-record Rows : Type 0 where
+record LaidRows : Type 0 where
   elements : List ℕ
   free : ℕ
   laid : Laid
 
 -- a row is laid at the free start
-lay : Rows → List ℕ → Rows
+lay : LaidRows → List ℕ → LaidRows
 lay s row =
     let joined : Bool = overlaps eqb 2 2 (s .free) (s .elements) row in
     record {
@@ -34,21 +34,21 @@ lay s row =
     }
 
 -- adds with internal shingling: the window moves by each point, and is laid
-adds : Rows → List ℕ → List (List ℕ) → Rows
+adds : LaidRows → List ℕ → List (List ℕ) → LaidRows
 adds s window [] = s
 adds s window (point ∷ points) = let row : List ℕ = movedWindow 2 window point in adds (lay s (rowToLay true row point)) row points
 
-fresh : ℕ → Rows
+fresh : ℕ → LaidRows
 fresh length = record { elements = replicate length 0; free = 0; laid = Whole 0 }
 
 -- A: the add of 1 2 is waiting and leaves the window 0 0 1 2. B, C: 3 4 and 5 6. Then 7 8 and 9 10
-afterB : Rows
+afterB : LaidRows
 afterB = adds (fresh 20) (0 ∷ 0 ∷ 1 ∷ 2 ∷ []) ((3 ∷ 4 ∷ []) ∷ [])
 
-afterC : Rows
+afterC : LaidRows
 afterC = adds afterB (1 ∷ 2 ∷ 3 ∷ 4 ∷ []) ((5 ∷ 6 ∷ []) ∷ [])
 
-afterFive : Rows
+afterFive : LaidRows
 afterFive = adds afterC (3 ∷ 4 ∷ 5 ∷ 6 ∷ []) ((7 ∷ 8 ∷ []) ∷ (9 ∷ 10 ∷ []) ∷ [])
 
 compactFive : Bool → List ℕ → Layout ℕ
@@ -59,12 +59,12 @@ layoutD : Layout ℕ
 layoutD = compactFive false (65535 ∷ 65535 ∷ 2 ∷ 3 ∷ 65535 ∷ [])
 
 -- E: add 11 12
-afterE : Rows
+afterE : LaidRows
 afterE =
     adds (record { elements = layoutD .elements; free = layoutD .free; laid = Whole 0 }) (7 ∷ 8 ∷ 9 ∷ 10 ∷ []) ((11 ∷ 12 ∷ []) ∷ [])
 
 -- H: no internal shingling, rotating, capacity 2, start 2; add 1 2 3 4, add 3 4 5 6, dec 0
-afterH : Rows
+afterH : LaidRows
 afterH = lay (lay (fresh 8) (rowToLay false [] (1 ∷ 2 ∷ 3 ∷ 4 ∷ []))) (rowToLay false [] (3 ∷ 4 ∷ 5 ∷ 6 ∷ []))
 
 layoutH : Layout ℕ
