@@ -1,4 +1,4 @@
--- List facts about `piece`: pieces that meet, and a piece of a longer list.
+-- List facts about `piece`, pieces that meet and a piece of a longer list, and about the window.
 use mathlib.Core.List.{List, [], _∷_, _++_}
 use mathlib.Core.Path.{_≡_, sym, ap, _∙_}
 use Prim.Native.Nat.{ℕ, zero, suc, _+_, _-_, _≤_}
@@ -6,7 +6,7 @@ use native.Mathlib.Nat.{suc-add, zero-add}
 use native.Mathlib.Omega.{arith}
 use lib.ListN.{length, take, drop, length-take, length-drop, length-append}
 use lib.Seq.{take-add, drop-drop, drop-append-le, take-append-le, take-nil}
-use Rattle.placement.specs.Row.{piece}
+use Rattle.placement.specs.Row.{movedWindow, piece}
 
 module _ {E : Type 0} where
   -- a piece up to b and one from there up to c
@@ -39,3 +39,8 @@ module _ {E : Type 0} where
   -- a list whose first elements are replaced by as many
   pub length-front : (l front : List E) (n : ℕ) → length front ≡ n → n ≤ length l → length (front ++ drop n l) ≡ length l
   length-front l front n counted inside = length-append front (drop n l) ∙ rw (counted, length-drop) (omega arith)
+
+  -- a window keeps its length as it moves
+  pub length-window : (base : ℕ) (window point : List E) → length point ≡ base → base ≤ length window → length (movedWindow base window point) ≡ length window
+  unfolding movedWindow
+  length-window base window point h k = length-append (drop base window) point ∙ rw (h, length-drop) (omega arith)
