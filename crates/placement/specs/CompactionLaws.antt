@@ -4,7 +4,7 @@ use mathlib.Core.List.{List, map}
 use mathlib.Core.Logic.{_⊎_}
 use mathlib.Core.Path.{_≡_, refl, sym, ap, subst⁻¹, _∙_}
 use Prim.Native.Nat.{ℕ, _+_, _*_, _/_, _%_, _≤_, _<_, _∣_}
-use native.Mathlib.Nat.{le-refl, le-of-dvd, mul-le-mul-right, le-div-iff-mul-le, div-le-self, le-trans}
+use native.Mathlib.Nat.{le-refl, mul-le-mul-right, div-le-self, le-trans}
 use native.Mathlib.Decide.{decLt}
 use native.Mathlib.Omega.{arith}
 use lib.ListN.{length, drop, getD, length-map, List·getD-map}
@@ -15,7 +15,7 @@ use Rattle.placement.specs.AlignmentLaws.{pointRoom}
 use Rattle.placement.specs.Copying.{turn, copied}
 use Rattle.placement.specs.Compaction.{Written, Layout, holds, liveBelow, liveCount, moved, settled, compacted}
 use Rattle.placement.specs.MovedLaws.{olds, moved-each, unmoved, moved-rank}
-use Rattle.placement.specs.Places.{Live, WellPlaced, Distinct}
+use Rattle.placement.specs.Places.{Live, WellPlaced, Distinct, place-below}
 use Rattle.placement.specs.ProgressLaws.{PointKept, Sound}
 use Rattle.placement.specs.Scan.{holds-at, live-rising, live-met, live-count, well-sound}
 use Rattle.placement.specs.Steps.{steps}
@@ -37,11 +37,11 @@ pub record CompactionKeeps {E : Type 0} (dims base : ℕ) (rotation : Bool) (loc
   pub rank : (i j : ℕ) → Live location i → Live location j → getD location i 65535 < getD location j 65535 → getD (after .location) i 65535 < getD (after .location) j 65535
 
 module _ {E : Type 0} (zeroElement : E) (dims base : ℕ) (rotation : Bool) (elements : List E) (location : List ℕ) (free : ℕ) (well : WellPlaced dims base location free (length elements)) where
-  live : List ℕ
+  -- the places that the scan meets
+  abbrev live : List ℕ
   live = liveBelow location (free / base)
 
   sound : Sound dims base rotation elements free live (free / base) (steps zeroElement dims base rotation elements live)
-  unfolding live
   sound = well-sound zeroElement dims base rotation elements location free well (free / base) (le-refl (free / base))
 
   -- compaction is what the scan's steps leave
@@ -51,11 +51,7 @@ module _ {E : Type 0} (zeroElement : E) (dims base : ℕ) (rotation : Bool) (ele
 
   -- a point's place is met
   met : (i : ℕ) → Live location i → holds live (getD location i 65535) ≡ true
-  unfolding live
-  met i l =
-      let ends : getD location i 65535 * base + dims ≤ free = well .ends i l in
-      let wide : base ≤ dims = le-of-dvd (well .shaped .some) (well .shaped .whole) in
-      live-met location (free / base) (getD location i 65535) (le-div-iff-mul-le (well .shaped .some-base) .1 (omega arith)) (holds-at location i 65535 (l .listed))
+  met i l = live-met location (free / base) (getD location i 65535) (place-below dims base location free (length elements) well i l) (holds-at location i 65535 (l .listed))
 
   abbrev w : Written E
   w = steps zeroElement dims base rotation elements live .written
@@ -85,7 +81,7 @@ module _ {E : Type 0} (zeroElement : E) (dims base : ℕ) (rotation : Bool) (ele
   turn-same false p q h = refl
 
   pub compaction-keeps : CompactionKeeps dims base rotation location free elements (compacted zeroElement dims base rotation elements location free)
-  unfolding settled live
+  unfolding settled
   compaction-keeps =
       subst⁻¹ (CompactionKeeps dims base rotation location free elements) compacted-by-steps
       (record {

@@ -1,7 +1,9 @@
 -- What a well-formed store gives of its shape, its places and its free start: the hypotheses of the laws.
 use mathlib.Core.List.{List}
 use mathlib.Core.Path.{_≡_}
-use Prim.Native.Nat.{ℕ, _+_, _*_, _≤_, _<_, _∣_}
+use Prim.Native.Nat.{ℕ, _+_, _*_, _/_, _≤_, _<_, _∣_}
+use native.Mathlib.Nat.{le-of-dvd, le-div-iff-mul-le}
+use native.Mathlib.Omega.{arith}
 use lib.ListN.{length, getD}
 
 -- base is a part of dimensions
@@ -22,6 +24,11 @@ pub record WellPlaced (dims base : ℕ) (location : List ℕ) (free length : ℕ
   pub small : free + dims ≤ 65535
   pub inside : free ≤ length
   pub ends : (i : ℕ) → Live location i → getD location i 65535 * base + dims ≤ free
+
+-- so every place is below free start / base
+pub place-below : (dims base : ℕ) (location : List ℕ) (free n : ℕ) → WellPlaced dims base location free n → (i : ℕ) → Live location i → getD location i 65535 < free / base
+place-below dims base location free n well i live =
+    le-div-iff-mul-le (well .shaped .some-base) .1 (omega (arith, well .ends i live, le-of-dvd (well .shaped .some) (well .shaped .whole)))
 
 -- 'live places are distinct'
 abbrev pub Distinct : List ℕ → Type 0

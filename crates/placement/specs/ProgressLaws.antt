@@ -176,7 +176,7 @@ module _ {E : Type 0} (zeroElement : E) (dims base : ℕ) (rotation : Bool) (ele
           }
 
     -- a point that starts at or before the end of what was read
-    pub joins-ready : p * base ≤ s .read → Ready 0 (s .read)
+    joins-ready : p * base ≤ s .read → Ready 0 (s .read)
     joins-ready h =
         let f : ℕ = s .written .free in
         let k : ℕ = s .read - p * base in

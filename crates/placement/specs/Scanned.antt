@@ -4,7 +4,7 @@ use mathlib.Core.Bool.{Bool, false}
 use mathlib.Core.List.{List}
 use mathlib.Core.Path.{_≡_, ap, _∙_}
 use Prim.Native.Nat.{ℕ, suc, _+_, _*_, _-_, _/_, _≤_, _<_}
-use native.Mathlib.Nat.{le-refl, le-of-lt, le-of-dvd, le-div-iff-mul-le}
+use native.Mathlib.Nat.{le-refl, le-of-lt}
 use native.Mathlib.Omega.{arith}
 use lib.ListN.{length, getD, set, length-map}
 use Rattle.placement.specs.Alignment.{zerosBefore}
@@ -12,17 +12,19 @@ use Rattle.placement.specs.Compaction.{Layout, holds, liveBelow, moved, 
 use Rattle.placement.specs.CompactionLaws.{compacted-by-steps}
 use Rattle.placement.specs.InPlace.{copiedWithin, filled, taken-elements, taken-location, step-joins, step-starts, none-settled}
 use Rattle.placement.specs.Pieces.{length-front}
-use Rattle.placement.specs.Places.{Live, WellPlaced, Distinct}
+use Rattle.placement.specs.Places.{Live, WellPlaced, Distinct, place-below}
 use Rattle.placement.specs.ProgressLaws.{Sound, starts-ready}
 use Rattle.placement.specs.Scan.{holds-at, live-next, live-none, steps-next, well-sound}
 use Rattle.placement.specs.Steps.{Progress, taken, step, stepsFrom, steps}
 
+-- what code holds
 pub record ScanState (E : Type 0) : Type 0 where
   pub elements : List E
   pub location : List ℕ
   pub free : ℕ
   pub read : ℕ
 
+-- what it holds after some steps
 unfoldable pub shown : {E : Type 0} → List E → List ℕ → Progress E → ScanState E
 shown elements location s =
     record {
@@ -92,7 +94,7 @@ module _ {E : Type 0} (zeroElement : E) (dims base : ℕ) (rotation : Bool) (ele
       met-inside = rw at at (well .ends i live)
 
       pub met-below : q < free / base
-      met-below = le-div-iff-mul-le (well .shaped .some-base) .1 (omega (arith, met-inside, le-of-dvd (well .shaped .some) (well .shaped .whole)))
+      met-below = rw at at (place-below dims base location free (length elements) well i live)
 
       sound : Sound dims base rotation elements free (liveBelow location q) q s
       sound = well-sound zeroElement dims base rotation elements location free well q (le-of-lt met-below)
