@@ -16,6 +16,7 @@ use Rattle.placement.specs.Copying.{turn, turned, copied}
 use Rattle.placement.specs.Growth.{grown}
 use Rattle.placement.specs.Alignment.{wrappingSub, wrappingAdd, alignment, zerosBefore}
 use Rattle.placement.specs.Compaction.{Layout, holds, liveBelow, moved, grownBlocks, blocks, blockMoves, copiedDown, settled, blockDown, blocksDown, writtenByBlocks, compacted}
+use Rattle.placement.specs.Steps.{taken, step, stepsFrom, steps}
 
 -- elements and free start, with how the last row was laid
 record LaidRows : Type 0 where
@@ -80,9 +81,14 @@ record Windows : Type 0 where
   d-copy : copied false 4 2 0 (layoutD .elements) ≡ 5 ∷ 6 ∷ 7 ∷ 8 ∷ []
   e : afterE .laid ≡ Joined 2
   f : copied true 4 2 1 (afterC .elements) ≡ 5 ∷ 6 ∷ 3 ∷ 4 ∷ []
+  -- half a turn is the same either way round; a quarter is not
+  f-quarter : copied true 4 1 1 (afterC .elements) ≡ 5 ∷ 2 ∷ 3 ∷ 4 ∷ []
   -- G: rotating, the five adds, dec 0, compact: two zeros, free start still 10; without rotation 8
   g : compactFive true (65535 ∷ 1 ∷ 2 ∷ 3 ∷ 65535 ∷ []) ≡ record { elements = 0 ∷ 0 ∷ 3 ∷ 4 ∷ 5 ∷ 6 ∷ 7 ∷ 8 ∷ 9 ∷ 10 ∷ replicate 10 0; location = 65535 ∷ 1 ∷ 2 ∷ 3 ∷ 65535 ∷ []; free = 10 }
   g-unturned : (compactFive false (65535 ∷ 1 ∷ 2 ∷ 3 ∷ 65535 ∷ [])) .free ≡ 8
+  -- D and G by steps
+  d-steps : settled (afterFive .elements) (65535 ∷ 65535 ∷ 2 ∷ 3 ∷ 65535 ∷ []) (steps 0 4 2 false (afterFive .elements) (2 ∷ 3 ∷ []) .written) ≡ layoutD
+  g-steps : settled (afterFive .elements) (65535 ∷ 1 ∷ 2 ∷ 3 ∷ 65535 ∷ []) (steps 0 4 2 true (afterFive .elements) (1 ∷ 2 ∷ 3 ∷ []) .written) ≡ compactFive true (65535 ∷ 1 ∷ 2 ∷ 3 ∷ 65535 ∷ [])
   -- H: add 9 9 9 9 does not join, and after compaction and growth its four elements pass the store length
   h : layoutH .free ≡ 6
   h-joins : overlaps eqb 2 2 6 (layoutH .elements) (9 ∷ 9 ∷ 9 ∷ 9 ∷ []) ≡ false
@@ -94,7 +100,7 @@ record Windows : Type 0 where
   h-run : lay (record { elements = layoutH .elements; free = 6; laid = Whole 0 }) (5 ∷ 6 ∷ 9 ∷ 9 ∷ []) ≡ record { elements = 0 ∷ 0 ∷ 3 ∷ 4 ∷ 5 ∷ 6 ∷ 9 ∷ 9 ∷ []; free = 8; laid = Joined 2 }
 
 windows : Windows
-unfolding lay adds fresh afterB afterC afterFive compactFive layoutD afterE afterH layoutH rowToLay movedWindow overlaps allEqual writtenCount laidAs laidElements laidFree turn turned copied grown wrappingSub wrappingAdd alignment zerosBefore holds liveBelow moved grownBlocks blocks blockMoves copiedDown settled blockDown blocksDown writtenByBlocks compacted
+unfolding lay adds fresh afterB afterC afterFive compactFive layoutD afterE afterH layoutH rowToLay movedWindow overlaps allEqual writtenCount laidAs laidElements laidFree turn turned copied grown wrappingSub wrappingAdd alignment zerosBefore holds liveBelow moved grownBlocks blocks blockMoves copiedDown settled blockDown blocksDown writtenByBlocks compacted taken step stepsFrom steps
 windows =
     record {
       a = refl;
@@ -105,7 +111,10 @@ windows =
       d-copy = refl;
       e = refl;
       f = refl;
+      f-quarter = refl;
       g = refl;
+      d-steps = refl;
+      g-steps = refl;
       g-unturned = refl;
       h = refl;
       h-joins = refl;
