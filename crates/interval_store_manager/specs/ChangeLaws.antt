@@ -42,8 +42,8 @@ module _ (c d n : ℕ) (ss es : List ℕ) (b : Bounded c n ss es) (f : (i : ℕ)
   wider-single k =
       rw (wider-held k)
       (elim (decLt k c) [
-        yes p ↦ rw (inside-left c (d - 1) k p) (omega (arith, f k p))
-      | no q ↦ rw (beyond c n ss es k b (omega arith)) (omega (arith, one-le (inside c (d - 1) k)))
+        | yes p ↦ rw (inside-left c (d - 1) k p) (omega (arith, f k p))
+        | no q ↦ rw (beyond c n ss es k b (omega arith)) (omega (arith, one-le (inside c (d - 1) k)))
       ])
 
   wider : Sound d (n + 1) ss′ es′
@@ -56,7 +56,7 @@ module _ (c d n : ℕ) (ss es : List ℕ) (b : Bounded c n ss es) (f : (i : ℕ)
         starts-used = rw (length-set ss n c) (omega arith);
         ends-used = rw (length-set es n (d - 1)) (omega arith);
         bounds = bounded-push c (d - 1) (omega arith) (omega arith) (omega arith) (omega arith) (bounded-wider d (omega arith) b);
-        single = λ i p. wider-single i
+        single = λ i p. wider-single i;
       }
 
   wider-sizes : sizes d (n + 1) ss′ es′ ≡ sizes c n ss es + (d - c)

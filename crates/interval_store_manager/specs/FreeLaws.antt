@@ -56,12 +56,12 @@ sizes-one c i n n′ ss es ss′ es′ h e = sum-one c i (holders n ss es) (hold
 pub single-more : (f : ℕ → ℕ) (i k : ℕ) → f i ≡ 0 → f k ≤ 1 → f k + one (eqb k i) ≤ 1
 single-more f i k z h =
     elim (decLt k i) [
-      yes l ↦ rw (ne-eqb k i (λ e. omega arith)) (omega arith)
-    | no g ↦
-      elim (decLt i k) [
-        yes l ↦ rw (ne-eqb k i (λ e. omega arith)) (omega arith)
-      | no d ↦ let e : k ≡ i = omega arith in rw (eq-eqb k i e, e, z) (omega arith)
-      ]
+      | yes l ↦ rw (ne-eqb k i (λ e. omega arith)) (omega arith)
+      | no g ↦
+          elim (decLt i k) [
+            | yes l ↦ rw (ne-eqb k i (λ e. omega arith)) (omega arith)
+            | no d ↦ let e : k ≡ i = omega arith in rw (eq-eqb k i e, e, z) (omega arith)
+          ]
     ]
 
 -- a stack that leaves an index below the capacity out has fewer entries in use than the capacity

@@ -48,7 +48,7 @@ module _ (c n : ℕ) (ss es : List ℕ) (s : Sound c n ss es) (h : 0 < n) where
   pop-held e k =
       holders-top n ss es k h
       ∙ ap (λ (x : ℕ). holders (n - 1) ss es k + x)
-        (ap (λ (x : ℕ). one (inside (next n ss) x k)) (sym e) ∙ inside-single (next n ss) k)
+      (ap (λ (x : ℕ). one (inside (next n ss) x k)) (sym e) ∙ inside-single (next n ss) k)
 
   keep-held : (k : ℕ) → holders n ss es k ≡ holders n (set ss (n - 1) (next n ss + 1)) es k + one (eqb k (next n ss))
   keep-held k =
@@ -64,8 +64,8 @@ module _ (c n : ℕ) (ss es : List ℕ) (s : Sound c n ss es) (h : 0 < n) where
         capacity = refl;
         held = pop-held e;
         kept =
-          restacked (n - 1) ss es s refl refl (omega (arith, entries-le-capacity s)) (bounded-fewer (n - 1) (omega arith) (s .bounds))
-          (λ i l. omega (arith, pop-held e i, s .single i l))
+            restacked (n - 1) ss es s refl refl (omega (arith, entries-le-capacity s)) (bounded-fewer (n - 1) (omega arith) (s .bounds))
+            (λ i l. omega (arith, pop-held e i, s .single i l));
       }
 
   shortened : (next n ss ≡ next n es → ⊥) → Took c n ss es (outcome (given (next n ss)) (manager c n) (set ss (n - 1) (next n ss + 1)) es)
@@ -76,18 +76,18 @@ module _ (c n : ℕ) (ss es : List ℕ) (s : Sound c n ss es) (h : 0 < n) where
         capacity = refl;
         held = keep-held;
         kept =
-          restacked n (set ss (n - 1) (next n ss + 1)) es s (length-set ss (n - 1) (next n ss + 1)) refl (entries-le-capacity s)
-          (bounded-start (next n ss + 1) h (s .starts-used) less (s .bounds))
-          (λ i l. omega (arith, keep-held i, s .single i l))
+            restacked n (set ss (n - 1) (next n ss + 1)) es s (length-set ss (n - 1) (next n ss + 1)) refl (entries-le-capacity s)
+            (bounded-start (next n ss + 1) h (s .starts-used) less (s .bounds))
+            (λ i l. omega (arith, keep-held i, s .single i l));
       }
 
   pub took : Took c n ss es (taken (manager c n) ss es)
   took =
       elim (decLt (next n ss) (next n es)) [
-        yes l ↦ rw (taken-keep c n ss es (λ e. omega arith)) (shortened (λ e. omega arith))
-      | no g ↦
-        let e : next n ss ≡ next n es = omega (arith, s .bounds .ordered (n - 1) (omega arith)) in
-        rw (taken-pop c n ss es e) (popped e)
+        | yes l ↦ rw (taken-keep c n ss es (λ e. omega arith)) (shortened (λ e. omega arith))
+        | no g ↦
+            let e : next n ss ≡ next n es = omega (arith, s .bounds .ordered (n - 1) (omega arith)) in
+            rw (taken-pop c n ss es e) (popped e)
       ]
 
 -- after get exactly the given index is no longer free, one index fewer is free, and the manager stays well-formed

@@ -76,9 +76,9 @@ module _ (c n : ℕ) (ss es : List ℕ) (i : ℕ) (s : Sound c n ss es) (l : i <
         capacity = refl;
         held = start-held h e;
         kept =
-          restacked n (set ss (n - 1) i) es s (length-set ss (n - 1) i) refl (entries-le-capacity s)
-          (bounded-start i h (s .starts-used) (omega (arith, s .bounds .ordered (n - 1) (omega arith))) (s .bounds))
-          (single-after n (set ss (n - 1) i) es (start-held h e))
+            restacked n (set ss (n - 1) i) es s (length-set ss (n - 1) i) refl (entries-le-capacity s)
+            (bounded-start i h (s .starts-used) (omega (arith, s .bounds .ordered (n - 1) (omega arith))) (s .bounds))
+            (single-after n (set ss (n - 1) i) es (start-held h e));
       }
 
   gave-end : 0 < n → next n es + 1 ≡ i → Gave c n ss es i (outcome done (manager c n) ss (set es (n - 1) i))
@@ -88,9 +88,9 @@ module _ (c n : ℕ) (ss es : List ℕ) (i : ℕ) (s : Sound c n ss es) (l : i <
         capacity = refl;
         held = end-held h e;
         kept =
-          restacked n ss (set es (n - 1) i) s refl (length-set es (n - 1) i) (entries-le-capacity s)
-          (bounded-end i h (s .ends-used) (omega (arith, s .bounds .ordered (n - 1) (omega arith))) l (s .bounds))
-          (single-after n ss (set es (n - 1) i) (end-held h e))
+            restacked n ss (set es (n - 1) i) s refl (length-set es (n - 1) i) (entries-le-capacity s)
+            (bounded-end i h (s .ends-used) (omega (arith, s .bounds .ordered (n - 1) (omega arith))) l (s .bounds))
+            (single-after n ss (set es (n - 1) i) (end-held h e));
       }
 
   gave-apart : Gave c n ss es i (pushed done c n ss es i i)
@@ -102,24 +102,24 @@ module _ (c n : ℕ) (ss es : List ℕ) (i : ℕ) (s : Sound c n ss es) (l : i <
         capacity = refl;
         held = apart-held;
         kept =
-          restacked (n + 1) (set ss n i) (set es n i) s (length-set ss n i) (length-set es n i) (omega arith)
-          (bounded-push i i (omega (arith, s .starts-lent)) (omega (arith, s .ends-lent)) (omega arith) l (s .bounds))
-          (single-after (n + 1) (set ss n i) (set es n i) apart-held)
+            restacked (n + 1) (set ss n i) (set es n i) s (length-set ss n i) (length-set es n i) (omega arith)
+            (bounded-push i i (omega (arith, s .starts-lent)) (omega (arith, s .ends-lent)) (omega arith) l (s .bounds))
+            (single-after (n + 1) (set ss n i) (set es n i) apart-held);
       }
 
   pub gave : Gave c n ss es i (released (manager c n) ss es i)
   gave =
       elim (decLt 0 n) [
-        no g ↦ rw (released-first c n ss es i (omega arith)) gave-apart
-      | yes h ↦
-        elim (ℕ-discrete (next n ss) (i + 1)) [
-          yes e ↦ rw (released-start c n ss es i h e) (gave-start h e)
-        | no d ↦
-          elim (ℕ-discrete (next n es + 1) i) [
-            yes e ↦ rw (released-end c n ss es i h d e) (gave-end h e)
-          | no f ↦ rw (released-apart c n ss es i h d f) gave-apart
-          ]
-        ]
+        | no g ↦ rw (released-first c n ss es i (omega arith)) gave-apart
+        | yes h ↦
+            elim (ℕ-discrete (next n ss) (i + 1)) [
+              | yes e ↦ rw (released-start c n ss es i h e) (gave-start h e)
+              | no d ↦
+                  elim (ℕ-discrete (next n es + 1) i) [
+                    | yes e ↦ rw (released-end c n ss es i h d e) (gave-end h e)
+                    | no f ↦ rw (released-apart c n ss es i h d f) gave-apart
+                  ]
+            ]
       ]
 
 -- after release exactly that index is free besides, one index more is free, and the manager stays well-formed

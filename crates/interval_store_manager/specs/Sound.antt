@@ -57,7 +57,7 @@ sound m ss es e =
       starts-used = lent n ss es (r .0) .0;
       ends-used = lent n ss es (r .0) .1;
       bounds = bounded c n ss es (t .0);
-      single = λ i l. leb-true (holders n ss es i) 1 (every-at c (λ k. leb (holders n ss es k) 1) (t .1) i l)
+      single = λ i l. leb-true (holders n ss es i) 1 (every-at c (λ k. leb (holders n ss es k) 1) (t .1) i l);
     }
 
 pub sound-make : (m : IntervalStoreManager) (ss es : List ℕ) → Sound (m .capacity) (m .last_in_use) ss es → wellFormed m ss es ≡ true
@@ -93,5 +93,5 @@ restacked n′ ss′ es′ s d e h b f =
       starts-used = omega (arith, s .starts-lent);
       ends-used = omega (arith, s .ends-lent);
       bounds = b;
-      single = f
+      single = f;
     }

@@ -45,7 +45,7 @@ bounded c (suc n) ss es e =
     let r = bounded c n ss es (p .0) in
     record {
       ordered = λ j l. ⊎-elim (λ m. r .ordered j m) (λ m. rw m (leb-true (getD ss n 0) (getD es n 0) (q .0))) (below-or-last n j l);
-      below = λ j l. ⊎-elim (λ m. r .below j m) (λ m. rw m (ltb-true (getD es n 0) c (q .1))) (below-or-last n j l)
+      below = λ j l. ⊎-elim (λ m. r .below j m) (λ m. rw m (ltb-true (getD es n 0) c (q .1))) (below-or-last n j l);
     }
 
 pub bounded-make : (capacity n : ℕ) (ss es : List ℕ) → Bounded capacity n ss es → inBounds capacity n ss es ≡ true
@@ -75,8 +75,11 @@ sizes-more c n ss es h g =
 pub entries-le-sizes : (c n : ℕ) (ss es : List ℕ) → Bounded c n ss es → n ≤ sizes c n ss es
 entries-le-sizes c zero ss es b = omega arith
 entries-le-sizes c (suc n) ss es b =
-    omega (arith, sizes-more c n ss es (b .ordered n (omega arith)) (b .below n (omega arith)),
-      entries-le-sizes c n ss es (record { ordered = λ j l. b .ordered j (omega arith); below = λ j l. b .below j (omega arith) }))
+    omega (
+      arith,
+      sizes-more c n ss es (b .ordered n (omega arith)) (b .below n (omega arith)),
+      entries-le-sizes c n ss es (record { ordered = λ j l. b .ordered j (omega arith); below = λ j l. b .below j (omega arith) }),
+    )
 
 -- more intervals hold more indices
 holders-grow : (i n : ℕ) (ss es : List ℕ) (k : ℕ) → i ≤ n → holders i ss es k ≤ holders n ss es k
@@ -84,8 +87,8 @@ unfolding holders
 holders-grow i zero ss es k h = let e : i ≡ 0 = omega arith in rw e (omega arith)
 holders-grow i (suc n) ss es k h =
     elim (decLt n i) [
-      yes l ↦ let e : i ≡ suc n = omega arith in rw e (omega arith)
-    | no g ↦ omega (arith, holders-grow i n ss es k (omega arith))
+      | yes l ↦ let e : i ≡ suc n = omega arith in rw e (omega arith)
+      | no g ↦ omega (arith, holders-grow i n ss es k (omega arith))
     ]
 
 pub sizes-grow : (c i n : ℕ) (ss es : List ℕ) → i ≤ n → sizes c i ss es ≤ sizes c n ss es

@@ -24,23 +24,27 @@ pub top-start : (n : ℕ) (ss es : List ℕ) (v k : ℕ) → 0 < n → n ≤ len
 top-start n ss es v k h g =
     holders-top n (set ss (n - 1) v) es k h
     ∙ ap₂ (λ (a b : ℕ). a + one (inside b (getD es (n - 1) 0) k))
-      (holders-same (n - 1) (set ss (n - 1) v) ss es es k (agree-set (n - 1) ss (n - 1) v (omega arith)) (agree-self (n - 1) es))
-      (getD-set-same ss (n - 1) v 0 (omega arith))
+    (holders-same (n - 1) (set ss (n - 1) v) ss es es k (agree-set (n - 1) ss (n - 1) v (omega arith)) (agree-self (n - 1) es))
+    (getD-set-same ss (n - 1) v 0 (omega arith))
 
 -- a new end at the top
 pub top-end : (n : ℕ) (ss es : List ℕ) (v k : ℕ) → 0 < n → n ≤ length es → holders n ss (set es (n - 1) v) k ≡ holders (n - 1) ss es k + one (inside (getD ss (n - 1) 0) v k)
 top-end n ss es v k h g =
     holders-top n ss (set es (n - 1) v) k h
     ∙ ap₂ (λ (a b : ℕ). a + one (inside (getD ss (n - 1) 0) b k))
-      (holders-same (n - 1) ss ss (set es (n - 1) v) es k (agree-self (n - 1) ss) (agree-set (n - 1) es (n - 1) v (omega arith)))
-      (getD-set-same es (n - 1) v 0 (omega arith))
+    (holders-same (n - 1) ss ss (set es (n - 1) v) es k (agree-self (n - 1) ss) (agree-set (n - 1) es (n - 1) v (omega arith)))
+    (getD-set-same es (n - 1) v 0 (omega arith))
 
 -- an interval pushed
 pub push : (n : ℕ) (ss es : List ℕ) (s e k : ℕ) → n < length ss → n < length es → holders (n + 1) (set ss n s) (set es n e) k ≡ holders n ss es k + one (inside s e k)
 unfolding holders
 push n ss es s e k h g =
-    rw (add-one n, holders-same n (set ss n s) ss (set es n e) es k (agree-set n ss n s (omega arith)) (agree-set n es n e (omega arith)),
-      getD-set-same ss n s 0 h, getD-set-same es n e 0 g)
+    rw (
+      add-one n,
+      holders-same n (set ss n s) ss (set es n e) es k (agree-set n ss n s (omega arith)) (agree-set n es n e (omega arith)),
+      getD-set-same ss n s 0 h,
+      getD-set-same es n e 0 g,
+    )
 
 -- fewer entries, or a larger capacity, keep the bounds
 pub bounded-fewer : {c n : ℕ} {ss es : List ℕ} (i : ℕ) → i ≤ n → Bounded c n ss es → Bounded c i ss es
@@ -53,36 +57,36 @@ bounded-wider d h b = record { ordered = b .ordered; below = λ j l. omega (arit
 stored : (P : ℕ → Type 0) (xs : List ℕ) (t v j : ℕ) → t < length xs → (j ≡ t → P v) → ((j ≡ t → ⊥) → P (getD xs j 0)) → P (getD (set xs t v) j 0)
 stored P xs t v j h same other =
     elim (decLt j t) [
-      yes l ↦ rw (getD-set-other xs t j v 0 (λ e. omega arith)) (other (λ e. omega arith))
-    | no g ↦
-      elim (decLt t j) [
-        yes l ↦ rw (getD-set-other xs t j v 0 (λ e. omega arith)) (other (λ e. omega arith))
-      | no f ↦ let e : j ≡ t = omega arith in rw (e, getD-set-same xs t v 0 h) (same e)
-      ]
+      | yes l ↦ rw (getD-set-other xs t j v 0 (λ e. omega arith)) (other (λ e. omega arith))
+      | no g ↦
+          elim (decLt t j) [
+            | yes l ↦ rw (getD-set-other xs t j v 0 (λ e. omega arith)) (other (λ e. omega arith))
+            | no f ↦ let e : j ≡ t = omega arith in rw (e, getD-set-same xs t v 0 h) (same e)
+          ]
     ]
 
 pub bounded-start : {c n : ℕ} {ss es : List ℕ} (v : ℕ) → 0 < n → n ≤ length ss → v ≤ getD es (n - 1) 0 → Bounded c n ss es → Bounded c n (set ss (n - 1) v) es
 bounded-start {c} {n} {ss} {es} v h g l b =
     record {
       ordered = λ j m. stored (λ x. x ≤ getD es j 0) ss (n - 1) v j (omega arith) (λ e. rw e l) (λ d. b .ordered j m);
-      below = b .below
+      below = b .below;
     }
 
 pub bounded-end : {c n : ℕ} {ss es : List ℕ} (v : ℕ) → 0 < n → n ≤ length es → getD ss (n - 1) 0 ≤ v → v < c → Bounded c n ss es → Bounded c n ss (set es (n - 1) v)
 bounded-end {c} {n} {ss} {es} v h g l u b =
     record {
       ordered = λ j m. stored (λ x. getD ss j 0 ≤ x) es (n - 1) v j (omega arith) (λ e. rw e l) (λ d. b .ordered j m);
-      below = λ j m. stored (λ x. x < c) es (n - 1) v j (omega arith) (λ e. u) (λ d. b .below j m)
+      below = λ j m. stored (λ x. x < c) es (n - 1) v j (omega arith) (λ e. u) (λ d. b .below j m);
     }
 
 pub bounded-push : {c n : ℕ} {ss es : List ℕ} (s e : ℕ) → n < length ss → n < length es → s ≤ e → e < c → Bounded c n ss es → Bounded c (n + 1) (set ss n s) (set es n e)
 bounded-push {c} {n} {ss} {es} s e h g l u b =
     record {
       ordered = λ j m.
-        stored (λ x. x ≤ getD (set es n e) j 0) ss n s j h
-        (λ q. rw (q, getD-set-same es n e 0 g) l)
-        (λ d. rw (getD-set-other es n j e 0 d) (b .ordered j (before j m d)));
-      below = λ j m. stored (λ x. x < c) es n e j g (λ q. u) (λ d. b .below j (before j m d))
+          stored (λ x. x ≤ getD (set es n e) j 0) ss n s j h
+          (λ q. rw (q, getD-set-same es n e 0 g) l)
+          (λ d. rw (getD-set-other es n j e 0 d) (b .ordered j (before j m d)));
+      below = λ j m. stored (λ x. x < c) es n e j g (λ q. u) (λ d. b .below j (before j m d));
     }
   where
     before : (j : ℕ) → j < n + 1 → (j ≡ n → ⊥) → j < n

@@ -8,7 +8,6 @@ ghost use lib.Dec.{leb, ltb};
 ghost use Rattle.terms.specs.Below.{sumBelow};
 ghost use Rattle.interval_store_manager.specs.WellFormed.{capacityAllowed, lentEnough, wellFormed};
 ghost use Rattle.interval_store_manager.specs.Marks.{filled, Unmarked, Swept, Marked, WellFormed};
-
 use crate::IntervalStoreManager;
 
 // What the check finds: whether the manager is well-formed, and then how many indices are free.
@@ -70,7 +69,13 @@ fn count_ones(marks: &[u8; 1024], capacity: usize) -> usize
 
 // Marks every index that the first n intervals hold, and stops where an interval is out of bounds or the sizes pass the
 // capacity: then two intervals share an index, and without the stop the pass would not be linear.
-fn mark_intervals(capacity: usize, n: usize, starts: &[u16], ends: &[u16], marks: &mut [u8; 1024]) -> Sizes
+fn mark_intervals(
+    capacity: usize,
+    n: usize,
+    starts: &[u16],
+    ends: &[u16],
+    marks: &mut [u8; 1024],
+) -> Sizes
     requires { ⌜ (capacity ≤ 1024) × ((n ≤ length (now starts)) × ((n ≤ length (now ends)) × Unmarked (now marks))) ⌝ }
     ensures { λ r. ⌜ Swept capacity n (now (starts .entry)) (now (ends .entry)) (now (marks .exit)) (r .ok) (r .total) ⌝ }
 {
@@ -80,14 +85,23 @@ fn mark_intervals(capacity: usize, n: usize, starts: &[u16], ends: &[u16], marks
         let start = starts[i] as usize;
         let end = ends[i] as usize;
         if end < start {
-            return Sizes { ok: false, total: 0 };
+            return Sizes {
+                ok: false,
+                total: 0,
+            };
         }
         if capacity <= end {
-            return Sizes { ok: false, total: 0 };
+            return Sizes {
+                ok: false,
+                total: 0,
+            };
         }
         total += end - start + 1;
         if capacity < total {
-            return Sizes { ok: false, total: 0 };
+            return Sizes {
+                ok: false,
+                total: 0,
+            };
         }
         fill_ones(marks, start, end + 1);
         i += 1;
@@ -96,7 +110,12 @@ fn mark_intervals(capacity: usize, n: usize, starts: &[u16], ends: &[u16], marks
 }
 
 // Checks the manager and marks its free indices.
-pub fn mark_free(m: IntervalStoreManager, starts: &[u16], ends: &[u16], marks: &mut [u8; 1024]) -> Checked
+pub fn mark_free(
+    m: IntervalStoreManager,
+    starts: &[u16],
+    ends: &[u16],
+    marks: &mut [u8; 1024],
+) -> Checked
     requires { ⌜ Unmarked (now marks) ⌝ }
     ensures { λ r. ⌜ Marked m (now (starts .entry)) (now (ends .entry)) (now (marks .exit)) (r .ok) (r .free) ⌝ }
 {

@@ -1,12 +1,19 @@
 // What is decided of change, get and release before anything is written: to go on, or document 01's refusal.
 ghost use mathlib.Core.Path.{_≡_};
 ghost use Rattle.interval_store_manager.specs.Calls.{decisionMeans, changeDecided, getDecided, releaseDecided};
-
-use crate::check::{lent_enough, mark_free, well_formed};
-use crate::{Decision, IntervalStoreManager};
+use crate::Decision;
+use crate::IntervalStoreManager;
+use crate::check::lent_enough;
+use crate::check::mark_free;
+use crate::check::well_formed;
 use terms::Refusal;
 
-pub fn change_decision(m: IntervalStoreManager, starts: &[u16], ends: &[u16], new_capacity: usize) -> Decision
+pub fn change_decision(
+    m: IntervalStoreManager,
+    starts: &[u16],
+    ends: &[u16],
+    new_capacity: usize,
+) -> Decision
     ensures { λ r. ⌜ decisionMeans r ≡ changeDecided m (now (starts .entry)) (now (ends .entry)) «new_capacity» ⌝ }
 {
     if IntervalStoreManager::LARGEST_CAPACITY < new_capacity {
@@ -36,7 +43,12 @@ pub fn get_decision(m: IntervalStoreManager, starts: &[u16], ends: &[u16]) -> De
     Decision::Refuse(Refusal::IllFormed)
 }
 
-pub fn release_decision(m: IntervalStoreManager, starts: &[u16], ends: &[u16], index: usize) -> Decision
+pub fn release_decision(
+    m: IntervalStoreManager,
+    starts: &[u16],
+    ends: &[u16],
+    index: usize,
+) -> Decision
     ensures { λ r. ⌜ decisionMeans r ≡ releaseDecided m (now (starts .entry)) (now (ends .entry)) index ⌝ }
 {
     let mut marks = [0u8; 1024];

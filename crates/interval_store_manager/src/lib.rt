@@ -9,10 +9,15 @@ mod check;
 mod decide;
 mod unchecked;
 
-use decide::{change_decision, get_decision, release_decision};
+pub use check::Checked;
+pub use check::capacity_allowed;
+pub use check::lent_enough;
+pub use check::mark_free;
+pub use check::well_formed;
+use decide::change_decision;
+use decide::get_decision;
+use decide::release_decision;
 use terms::Refusal;
-
-pub use check::{capacity_allowed, lent_enough, mark_free, well_formed, Checked};
 
 // A stack of `last_in_use` intervals over the indices below `capacity`; the caller lends their starts and their ends.
 pub struct IntervalStoreManager {
@@ -75,6 +80,7 @@ pub enum Emptiness {
 impl IntervalStoreManager {
     // Document 01: 'capacity is 1 to 1,024'.
     pub const LEAST_CAPACITY: usize = 1;
+
     pub const LARGEST_CAPACITY: usize = 1024;
 
     // A manager all of whose indices are free.
@@ -96,7 +102,12 @@ impl IntervalStoreManager {
     }
 
     // Grows the capacity; a change to what it is or below it does nothing.
-    pub fn change_capacity(self, starts: &mut [u16], ends: &mut [u16], new_capacity: usize) -> ChangeResult
+    pub fn change_capacity(
+        self,
+        starts: &mut [u16],
+        ends: &mut [u16],
+        new_capacity: usize,
+    ) -> ChangeResult
         ensures { λ r. ⌜ outcome (changedMeans (r .answer)) (r .manager) (now (starts .exit)) (now (ends .exit)) ≡ changeSpec self (now (starts .entry)) (now (ends .entry)) «new_capacity» ⌝ }
     {
         let d = change_decision(self, starts, ends, new_capacity);

@@ -7,12 +7,20 @@ ghost use Rattle.interval_store_manager.specs.Intervals.{isFree};
 ghost use Rattle.interval_store_manager.specs.WellFormed.{lentEnough, wellFormed};
 ghost use Rattle.interval_store_manager.specs.Answers.{done, given, outcome};
 ghost use Rattle.interval_store_manager.specs.Calls.{changed, pushed, taken, released};
-
-use crate::{Given, IntervalStoreManager, Taken};
+use crate::Given;
+use crate::IntervalStoreManager;
+use crate::Taken;
 
 impl IntervalStoreManager {
     // The stack with [start, end] pushed, at another capacity.
-    fn push(self, starts: &mut [u16], ends: &mut [u16], capacity: usize, start: usize, end: usize) -> IntervalStoreManager
+    fn push(
+        self,
+        starts: &mut [u16],
+        ends: &mut [u16],
+        capacity: usize,
+        start: usize,
+        end: usize,
+    ) -> IntervalStoreManager
         requires { ⌜ (self .last_in_use < length (now starts)) × ((self .last_in_use < length (now ends)) × ((start ≤ 1023) × (end ≤ 1023))) ⌝ }
         ensures { λ r. ⌜ outcome done r (now (starts .exit)) (now (ends .exit)) ≡ pushed done capacity (self .last_in_use) (now (starts .entry)) (now (ends .entry)) start end ⌝ }
     {
@@ -48,7 +56,12 @@ impl IntervalStoreManager {
         }
     }
 
-    pub fn release_unchecked(self, starts: &mut [u16], ends: &mut [u16], index: usize) -> IntervalStoreManager
+    pub fn release_unchecked(
+        self,
+        starts: &mut [u16],
+        ends: &mut [u16],
+        index: usize,
+    ) -> IntervalStoreManager
         requires { ⌜ (wellFormed self (now starts) (now ends) ≡ true) × ((index < self .capacity) × (isFree (self .last_in_use) (now starts) (now ends) index ≡ false)) ⌝ }
         ensures { λ r. ⌜ outcome done r (now (starts .exit)) (now (ends .exit)) ≡ released self (now (starts .entry)) (now (ends .entry)) index ⌝ }
     {
@@ -71,7 +84,12 @@ impl IntervalStoreManager {
         self.push(starts, ends, capacity, index, index)
     }
 
-    pub fn change_capacity_unchecked(self, starts: &mut [u16], ends: &mut [u16], new_capacity: usize) -> IntervalStoreManager
+    pub fn change_capacity_unchecked(
+        self,
+        starts: &mut [u16],
+        ends: &mut [u16],
+        new_capacity: usize,
+    ) -> IntervalStoreManager
         requires { ⌜ (wellFormed self (now starts) (now ends) ≡ true) × ((«new_capacity» ≤ 1024) × (lentEnough «new_capacity» (now starts) (now ends) ≡ true)) ⌝ }
         ensures { λ r. ⌜ outcome done r (now (starts .exit)) (now (ends .exit)) ≡ changed self (now (starts .entry)) (now (ends .entry)) «new_capacity» ⌝ }
     {

@@ -76,8 +76,8 @@ unfolding sumBelow
 sum-beyond n zero f z h = let e : n ≡ 0 = omega arith in rw e
 sum-beyond n (suc d) f z h =
     elim (decLt d n) [
-      yes l ↦ let e : n ≡ suc d = omega arith in rw e
-    | no g ↦ omega (arith, sum-beyond n d f z (omega arith), z d (omega arith))
+      | yes l ↦ let e : n ≡ suc d = omega arith in rw e
+      | no g ↦ omega (arith, sum-beyond n d f z (omega arith), z d (omega arith))
     ]
 
 -- two ordered functions whose sums are equal agree everywhere below n

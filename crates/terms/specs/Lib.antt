@@ -1,2 +1,4 @@
 pub mod Below
 pub mod Refusals
+pub mod Search
+pub mod Sums
