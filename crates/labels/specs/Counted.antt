@@ -5,7 +5,7 @@ use mathlib.Core.List.{List}
 use mathlib.Core.Bool.{Bool, cond, _&&_, Bool·beq}
 use lib.ListN.{length, getD, set}
 use lib.Dec.{leb, ltb, eqb}
-use Rattle.terms.specs.Below.{everyBelow}
+use Rattle.terms.specs.Below.{everyBelow, countBelow}
 use Rattle.interval_store_manager.specs.declared.IntervalStoreManager.{IntervalStoreManager}
 use Rattle.interval_store_manager.specs.Intervals.{isFree}
 use Rattle.interval_store_manager.specs.WellFormed.{wellFormed}
@@ -31,6 +31,10 @@ free t i = isFree (t .manager .last_in_use) (t .starts) (t .ends) i
 -- the index that the manager gives next
 abbrev pub nextIndex : Counted → ℕ
 nextIndex t = next (t .manager .last_in_use) (t .starts)
+
+-- how many indices are live
+unfoldable pub liveNumber : ℕ → Counted → ℕ
+liveNumber capacity t = countBelow capacity (λ i. ltb 0 (countAt t i))
 
 -- the manager well-formed with the capacity, a count for each index, and free indices are 'those with count 0'
 unfoldable pub countedWell : ℕ → Counted → Bool

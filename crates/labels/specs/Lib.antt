@@ -3,3 +3,7 @@ pub mod Counted
 pub mod CountedLaws
 pub mod Labels
 pub mod Sound
+pub mod SlotLaws
+pub mod CountLaws
+pub mod TakeSlotLaws
+pub mod TakeLaws

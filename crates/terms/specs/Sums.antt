@@ -38,6 +38,12 @@ sum-less (suc n) i f h l z =
     (λ q. omega (arith, rw q at z, sum-ones n f (λ k p. h k (omega arith))))
     (below-or-last n i l)
 
+-- entries that are all 1 add up to n
+pub sum-full : (n : ℕ) (f : ℕ → ℕ) → ((i : ℕ) → i < n → f i ≡ 1) → sumBelow n f ≡ n
+unfolding sumBelow
+sum-full zero f h = refl
+sum-full (suc n) f h = omega (arith, sum-full n f (λ i l. h i (omega arith)), h n (omega arith))
+
 -- the order of summation plays no part
 pub sum-swap : (n m : ℕ) (f : ℕ → ℕ → ℕ) → sumBelow n (λ i. sumBelow m (λ j. f i j)) ≡ sumBelow m (λ j. sumBelow n (λ i. f i j))
 unfolding sumBelow
