@@ -43,13 +43,13 @@ module _ (classes : List ℕ) (c : ℕ) (l : Labels) (w : Sound classes c l) (i 
         rw (se, le)
         (let sum = sum-counted c (l .labelAttributes) (l .labelTable .counts) i v s m (w .label-table .lent) in
         elim (ℕ-discrete s a) [
-          yes e ↦
-          let q = rw (eq-eqb a s (sym e)) at sum in
-          rw (e, getD-set-same (l .attributeTable .counts) a x 0 (omega (arith, below, w .slot-table .lent)))
-          (let z = rw e at q in omega (arith, z, w .sums a below, same))
-        | no d ↦
-          let q = rw (ne-eqb a s (λ e. d (sym e))) at sum in
-          rw (getD-set-other (l .attributeTable .counts) a s x 0 d) (omega (arith, q, w .sums s b))
+          | yes e ↦
+              let q = rw (eq-eqb a s (sym e)) at sum in
+              rw (e, getD-set-same (l .attributeTable .counts) a x 0 (omega (arith, below, w .slot-table .lent)))
+              (let z = rw e at q in omega (arith, z, w .sums a below, same))
+          | no d ↦
+              let q = rw (ne-eqb a s (λ e. d (sym e))) at sum in
+              rw (getD-set-other (l .attributeTable .counts) a s x 0 d) (omega (arith, q, w .sums s b))
         ])
 
     recounted : Sound classes c (withTables l lt st)
@@ -61,13 +61,13 @@ module _ (classes : List ℕ) (c : ℕ) (l : Labels) (w : Sound classes c l) (i 
           slots-lent = w .slots-lent;
           classes-lent = w .classes-lent;
           count-most = λ k j.
-            rw le
-            (stored (λ n. n ≤ 65535) (l .labelTable .counts) i v k (omega (arith, w .label-table .lent)) (λ e. vm) (λ d. w .count-most k j));
+              rw le
+              (stored (λ n. n ≤ 65535) (l .labelTable .counts) i v k (omega (arith, w .label-table .lent)) (λ e. vm) (λ d. w .count-most k j));
           stands = λ k j p.
-            let s = w .stands k j (was-live k p) in
-            record { code-most = s .code-most; slot-below = s .slot-below; slot-class = s .slot-class };
+              let s = w .stands k j (was-live k p) in
+              record { code-most = s .code-most; slot-below = s .slot-below; slot-class = s .slot-class };
           distinct = λ s t b d p q e. w .distinct s t b d (slot-was-live s p) (slot-was-live t q) e;
-          sums = sums-after
+          sums = sums-after;
         }
 
   pub inc-keeps : labelCountAt l i < 65535 → Sound classes c (labelRaised l i)

@@ -21,7 +21,7 @@ use Rattle.labels.specs.Sound.{Sound}
 abbrev pub share : List ℕ → List ℕ → ℕ → ℕ → ℕ
 share slots counts s i = cond (eqb (getD slots i 0) s) (getD counts i 0) 0
 
-share-zero : (b : Bool) (n : ℕ) → n ≡ 0 → cond b n 0 ≡ 0
+pub share-zero : (b : Bool) (n : ℕ) → n ≡ 0 → cond b n 0 ≡ 0
 share-zero true n e = e
 share-zero false n e = refl
 
@@ -38,9 +38,9 @@ pub sum-labelled : (c : ℕ) (slots counts : List ℕ) (i a s : ℕ) → i < c �
 unfolding slotSum
 sum-labelled c slots counts i a s h g f z =
     let e =
-      rw (getD-set-same counts i 1 0 (omega arith), getD-set-same slots i a 0 (omega arith))
-      at (sum-changed c i (share slots counts s) (share (set slots i a) (set counts i 1) s) h
-      (λ k l d. rw (getD-set-other counts i k 1 0 d, getD-set-other slots i k a 0 d))) in
+    rw (getD-set-same counts i 1 0 (omega arith), getD-set-same slots i a 0 (omega arith))
+    at (sum-changed c i (share slots counts s) (share (set slots i a) (set counts i 1) s) h
+    (λ k l d. rw (getD-set-other counts i k 1 0 d, getD-set-other slots i k a 0 d))) in
     omega (arith, e, share-zero (eqb (getD slots i 0) s) (getD counts i 0) z)
 
 module _ (classes : List ℕ) (c : ℕ) (l : Labels) (w : Sound classes c l) where
@@ -61,8 +61,8 @@ module _ (classes : List ℕ) (c : ℕ) (l : Labels) (w : Sound classes c l) whe
   share-most : (s i : ℕ) → i < c → share slots counts s i ≤ 65535
   share-most s i m =
       elim (ℕ-discrete (slotAt l i) s) [
-        yes e ↦ rw (eq-eqb (slotAt l i) s e) (w .count-most i m)
-      | no d ↦ rw (ne-eqb (slotAt l i) s d) (omega arith)
+        | yes e ↦ rw (eq-eqb (slotAt l i) s e) (w .count-most i m)
+        | no d ↦ rw (ne-eqb (slotAt l i) s d) (omega arith)
       ]
 
   -- 'A slot's count, at most 67,107,840'
@@ -78,12 +78,12 @@ module _ (classes : List ℕ) (c : ℕ) (l : Labels) (w : Sound classes c l) whe
   no-hit : (i s : ℕ) → hit i s ≡ 0 → share slots counts s i ≡ 0
   no-hit i s z =
       elim (decLt 0 (labelCountAt l i)) [
-        no g ↦ share-zero (eqb (slotAt l i) s) (labelCountAt l i) (omega arith)
-      | yes u ↦
-        elim (ℕ-discrete (slotAt l i) s) [
-          no d ↦ rw (ne-eqb (slotAt l i) s d)
-        | yes e ↦ absurd (let q = rw (lt-ltb 0 (labelCountAt l i) u, eq-eqb (slotAt l i) s e) at z in omega arith)
-        ]
+        | no g ↦ share-zero (eqb (slotAt l i) s) (labelCountAt l i) (omega arith)
+        | yes u ↦
+            elim (ℕ-discrete (slotAt l i) s) [
+              | no d ↦ rw (ne-eqb (slotAt l i) s d)
+              | yes e ↦ absurd (let q = rw (lt-ltb 0 (labelCountAt l i) u, eq-eqb (slotAt l i) s e) at z in omega arith)
+            ]
       ]
 
   -- a live slot is the slot of a live label
@@ -91,26 +91,26 @@ module _ (classes : List ℕ) (c : ℕ) (l : Labels) (w : Sound classes c l) whe
   unfolding slotSum
   slot-hit s m =
       elim (decLt 0 (sumBelow c (λ i. hit i s))) [
-        yes p ↦ omega (arith, one-le (ltb 0 (slotCountAt l s)))
-      | no g ↦
-        let none : slotCountAt l s ≡ 0 =
-          w .sums s m
-          ∙ (sum-same c (share slots counts s) (λ i. 0) (λ i k. no-hit i s (omega (arith, at-le-sum c (λ j. hit j s) i k)))
-          ∙ sum-zeros c) in
-        rw (le-ltb 0 (slotCountAt l s) (omega arith)) (omega arith)
+        | yes p ↦ omega (arith, one-le (ltb 0 (slotCountAt l s)))
+        | no g ↦
+            let none : slotCountAt l s ≡ 0 =
+            w .sums s m
+            ∙ (sum-same c (share slots counts s) (λ i. 0) (λ i k. no-hit i s (omega (arith, at-le-sum c (λ j. hit j s) i k)))
+            ∙ sum-zeros c) in
+            rw (le-ltb 0 (slotCountAt l s) (omega arith)) (omega arith)
       ]
 
   -- a live label has one slot
   label-hits : (i : ℕ) → i < c → sumBelow c (λ s. hit i s) ≤ one (ltb 0 (labelCountAt l i))
   label-hits i m =
       elim (decLt 0 (labelCountAt l i)) [
-        no g ↦ rw (le-ltb 0 (labelCountAt l i) (omega arith)) (omega (arith, sum-zeros c))
-      | yes u ↦
-        let a = slotAt l i in
-        let other : (k : ℕ) → k < c → (k ≡ a → ⊥) → one (eqb a k) ≡ 0 = λ k p d. rw (ne-eqb a k (λ e. d (sym e))) in
-        let own : one (eqb a a) ≡ 1 = rw (eq-eqb a a refl) in
-        rw (lt-ltb 0 (labelCountAt l i) u)
-        (omega (arith, sum-changed c a (λ s. 0) (λ s. one (eqb a s)) (w .stands i m u .slot-below) other, sum-zeros c, own))
+        | no g ↦ rw (le-ltb 0 (labelCountAt l i) (omega arith)) (omega (arith, sum-zeros c))
+        | yes u ↦
+            let a = slotAt l i in
+            let other : (k : ℕ) → k < c → (k ≡ a → ⊥) → one (eqb a k) ≡ 0 = λ k p d. rw (ne-eqb a k (λ e. d (sym e))) in
+            let own : one (eqb a a) ≡ 1 = rw (eq-eqb a a refl) in
+            rw (lt-ltb 0 (labelCountAt l i) u)
+            (omega (arith, sum-changed c a (λ s. 0) (λ s. one (eqb a s)) (w .stands i m u .slot-below) other, sum-zeros c, own))
       ]
 
   pub live-slots-le-labels : liveNumber c (l .attributeTable) ≤ liveNumber c (l .labelTable)
@@ -125,21 +125,21 @@ module _ (classes : List ℕ) (c : ℕ) (l : Labels) (w : Sound classes c l) whe
   unfolding liveNumber countBelow
   slot-free h =
       elim (decLt 0 (l .attributeTable .manager .last_in_use)) [
-        yes p ↦ p
-      | no g ↦
-        let i = nextIndex (l .labelTable) in
-        let dead : one (ltb 0 (labelCountAt l i)) ≡ 0 =
-          rw (le-ltb 0 (labelCountAt l i) (omega (arith, next-unused c (l .labelTable) (w .label-table) h))) in
-        let fewer =
-          sum-less c i (λ k. one (ltb 0 (labelCountAt l k))) (λ k m. one-le (ltb 0 (labelCountAt l k)))
-          (next-within c (l .labelTable) (w .label-table) h) dead in
-        let all = sum-full c (λ s. one (ltb 0 (slotCountAt l s))) (all-live g) in
-        absurd (omega (arith, live-slots-le-labels, fewer, all))
+        | yes p ↦ p
+        | no g ↦
+            let i = nextIndex (l .labelTable) in
+            let dead : one (ltb 0 (labelCountAt l i)) ≡ 0 =
+            rw (le-ltb 0 (labelCountAt l i) (omega (arith, next-unused c (l .labelTable) (w .label-table) h))) in
+            let fewer =
+            sum-less c i (λ k. one (ltb 0 (labelCountAt l k))) (λ k m. one-le (ltb 0 (labelCountAt l k)))
+            (next-within c (l .labelTable) (w .label-table) h) dead in
+            let all = sum-full c (λ s. one (ltb 0 (slotCountAt l s))) (all-live g) in
+            absurd (omega (arith, live-slots-le-labels, fewer, all))
       ]
     where
       all-live : (0 < l .attributeTable .manager .last_in_use → ⊥) → (s : ℕ) → s < c → one (ltb 0 (slotCountAt l s)) ≡ 1
       all-live g s m =
           elim (decLt 0 (slotCountAt l s)) [
-            yes u ↦ rw (lt-ltb 0 (slotCountAt l s) u)
-          | no f ↦ absurd (g (unused-stacked c (l .attributeTable) (w .slot-table) s m (omega arith)))
+            | yes u ↦ rw (lt-ltb 0 (slotCountAt l s) u)
+            | no f ↦ absurd (g (unused-stacked c (l .attributeTable) (w .slot-table) s m (omega arith)))
           ]

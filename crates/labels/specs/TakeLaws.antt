@@ -46,9 +46,11 @@ module _ (classes : List ℕ) (c : ℕ) (l : Labels) (w : Sound classes c l) (co
         code-most = rw (getD-set-same (l .labels) i code 0 (omega (arith, below, w .codes-lent))) cm;
         slot-below = rw (getD-set-same (l .labelAttributes) i (o .slot) 0 (omega (arith, below, w .slots-lent))) (slot .below);
         slot-class =
-          rw (getD-set-same (l .labelAttributes) i (o .slot) 0 (omega (arith, below, w .slots-lent)),
-          getD-set-same (l .labels) i code 0 (omega (arith, below, w .codes-lent)))
-          (slot .holds)
+            rw (
+              getD-set-same (l .labelAttributes) i (o .slot) 0 (omega (arith, below, w .slots-lent)),
+              getD-set-same (l .labels) i code 0 (omega (arith, below, w .codes-lent)),
+            )
+            (slot .holds);
       }
 
   old-stands : (k : ℕ) → k < c → (k ≡ i → ⊥) → 0 < labelCountAt l k → Stands classes c after k
@@ -60,14 +62,18 @@ module _ (classes : List ℕ) (c : ℕ) (l : Labels) (w : Sound classes c l) (co
         code-most = rw (getD-set-other (l .labels) i k code 0 d) (s .code-most);
         slot-below = rw (getD-set-other (l .labelAttributes) i k (o .slot) 0 d) (s .slot-below);
         slot-class =
-          rw (getD-set-other (l .labelAttributes) i k (o .slot) 0 d, getD-set-other (l .labels) i k code 0 d)
-          (slot .others (slotAt l k) live ∙ s .slot-class)
+            rw (getD-set-other (l .labelAttributes) i k (o .slot) 0 d, getD-set-other (l .labels) i k code 0 d)
+            (slot .others (slotAt l k) live ∙ s .slot-class);
       }
 
   sums-after : (s : ℕ) → s < c → countAt (o .table) s ≡ slotSum c (set (l .labelAttributes) i (o .slot)) (set (l .labelTable .counts) i 1) s
   sums-after s m =
-      omega (arith, slot .counts s m, w .sums s m,
-        sum-labelled c (l .labelAttributes) (l .labelTable .counts) i (o .slot) s below (w .slots-lent) (w .label-table .lent) unused)
+      omega (
+        arith,
+        slot .counts s m,
+        w .sums s m,
+        sum-labelled c (l .labelAttributes) (l .labelTable .counts) i (o .slot) s below (w .slots-lent) (w .label-table .lent) unused,
+      )
 
   pub label-keeps : Sound classes c after
   unfolding labelTaken indexTaken
@@ -79,12 +85,12 @@ module _ (classes : List ℕ) (c : ℕ) (l : Labels) (w : Sound classes c l) (co
         slots-lent = rw (length-set (l .labelAttributes) i (o .slot)) (w .slots-lent);
         classes-lent = slot .lent;
         count-most = λ k m.
-          stored (λ n. n ≤ 65535) (l .labelTable .counts) i 1 k (omega (arith, below, w .label-table .lent)) (λ e. omega arith)
-          (λ d. w .count-most k m);
+            stored (λ n. n ≤ 65535) (l .labelTable .counts) i 1 k (omega (arith, below, w .label-table .lent)) (λ e. omega arith)
+            (λ d. w .count-most k m);
         stands = λ k m p.
-          elim (ℕ-discrete k i) [ yes e ↦ rw e new-stands | no d ↦ old-stands k m d (was-live k d p) ];
+            elim (ℕ-discrete k i) [ yes e ↦ rw e new-stands | no d ↦ old-stands k m d (was-live k d p) ];
         distinct = slot .distinct;
-        sums = sums-after
+        sums = sums-after;
       }
 
   -- a live label keeps its code and its slot, and the new label has the code that was given

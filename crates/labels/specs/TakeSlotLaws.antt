@@ -58,10 +58,10 @@ module _ (c : ℕ) (held : List ℕ) (t : Counted) (class : ℕ) (w : WellCounte
           lent = g;
           holds = found .1;
           counts = λ s l.
-            stored (λ n. n ≡ countAt t s + one (eqb r s)) (t .counts) r (countAt t r + 1) s (omega (arith, w .lent))
-            (λ e. rw (eq-eqb r s (sym e), e)) (λ f. rw (ne-eqb r s (λ e. f (sym e))) (omega arith));
+              stored (λ n. n ≡ countAt t s + one (eqb r s)) (t .counts) r (countAt t r + 1) s (omega (arith, w .lent))
+              (λ e. rw (eq-eqb r s (sym e), e)) (λ f. rw (ne-eqb r s (λ e. f (sym e))) (omega arith));
           others = λ s u. refl;
-          distinct = λ s k l m p q e. d s k l m (was-live s p) (was-live k q) e
+          distinct = λ s k l m p q e. d s k l m (was-live s p) (was-live k q) e;
         }
 
   -- it is not, and the manager gives a slot
@@ -93,22 +93,22 @@ module _ (c : ℕ) (held : List ℕ) (t : Counted) (class : ℕ) (w : WellCounte
     apart : Distinct c (set held a class) (set (t .counts) a 1)
     apart s j l m p q e =
         elim (ℕ-discrete s a) [
-          yes x ↦
-          elim (ℕ-discrete j a) [
-            yes y ↦ x ∙ sym y
-          | no y ↦
-            absurd (not-held j m (was-live-or-a j y q)
-            (sym (rw (x, getD-set-same held a class 0 (omega (arith, within)), getD-set-other held a j class 0 y) at e)))
-          ]
-        | no x ↦
-          elim (ℕ-discrete j a) [
-            yes y ↦
-            absurd (not-held s l (was-live-or-a s x p)
-            (rw (y, getD-set-same held a class 0 (omega (arith, within)), getD-set-other held a s class 0 x) at e))
-          | no y ↦
-            d s j l m (was-live-or-a s x p) (was-live-or-a j y q)
-            (rw (getD-set-other held a s class 0 x, getD-set-other held a j class 0 y) at e)
-          ]
+          | yes x ↦
+              elim (ℕ-discrete j a) [
+                | yes y ↦ x ∙ sym y
+                | no y ↦
+                    absurd (not-held j m (was-live-or-a j y q)
+                    (sym (rw (x, getD-set-same held a class 0 (omega (arith, within)), getD-set-other held a j class 0 y) at e)))
+              ]
+          | no x ↦
+              elim (ℕ-discrete j a) [
+                | yes y ↦
+                    absurd (not-held s l (was-live-or-a s x p)
+                    (rw (y, getD-set-same held a class 0 (omega (arith, within)), getD-set-other held a s class 0 x) at e))
+                | no y ↦
+                    d s j l m (was-live-or-a s x p) (was-live-or-a j y q)
+                    (rw (getD-set-other held a s class 0 x, getD-set-other held a j class 0 y) at e)
+              ]
         ]
 
     took-new : Took c held t class (record { slot = a; attributes = set held a class; table = indexTaken t })
@@ -120,16 +120,16 @@ module _ (c : ℕ) (held : List ℕ) (t : Counted) (class : ℕ) (w : WellCounte
           lent = rw (length-set held a class) g;
           holds = getD-set-same held a class 0 (omega (arith, within));
           counts = λ s l.
-            stored (λ n. n ≡ countAt t s + one (eqb a s)) (t .counts) a 1 s (omega (arith, w .lent, within))
-            (λ e. rw (eq-eqb a s (sym e), e, unused)) (λ f. rw (ne-eqb a s (λ e. f (sym e))) (omega arith));
+              stored (λ n. n ≡ countAt t s + one (eqb a s)) (t .counts) a 1 s (omega (arith, w .lent, within))
+              (λ e. rw (eq-eqb a s (sym e), e, unused)) (λ f. rw (ne-eqb a s (λ e. f (sym e))) (omega arith));
           others = λ s u. getD-set-other held a s class 0 (not-a s u);
-          distinct = apart
+          distinct = apart;
         }
 
   pub slot-took : 0 < t .manager .last_in_use → Took c held t class (slotTaken c held t class)
   unfolding slotTaken
   slot-took k =
       elim (decLt r c) [
-        yes h ↦ rw (lt-ltb r c h) (took-live h)
-      | no f ↦ rw (le-ltb r c (omega arith)) (took-new (omega arith) k)
+        | yes h ↦ rw (lt-ltb r c h) (took-live h)
+        | no f ↦ rw (le-ltb r c (omega arith)) (took-new (omega arith) k)
       ]
