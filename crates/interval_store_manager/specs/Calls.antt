@@ -2,8 +2,8 @@
 -- in 01's order, then what is carried out. A refused call leaves manager and lists as they were.
 use Prim.Native.Nat.{ℕ, _+_, _-_}
 use mathlib.Core.List.{List}
-use mathlib.Core.Bool.{Bool, cond, not, _&&_, _||_}
-use lib.ListN.{length, getD, set}
+use mathlib.Core.Bool.{cond, _&&_, _||_}
+use lib.ListN.{getD, set}
 use lib.Dec.{leb, ltb, eqb}
 use Rattle.terms.specs.Refusals.{number}
 use Rattle.interval_store_manager.specs.declared.IntervalStoreManager.{IntervalStoreManager}

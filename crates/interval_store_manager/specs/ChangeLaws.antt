@@ -3,19 +3,18 @@ use Prim.Native.Nat.{ℕ, zero, suc, _+_, _-_, _≤_, _<_}
 use native.Mathlib.Omega.{arith}
 use native.Mathlib.Decide.{decLt}
 use mathlib.Core.List.{List}
-use mathlib.Core.Bool.{Bool, true, false, _||_, or-true}
-use mathlib.Core.Path.{_≡_, refl, sym, _∙_, ap}
+use mathlib.Core.Bool.{true, _||_, or-true}
+use mathlib.Core.Path.{_≡_, refl, _∙_}
 use lib.ListN.{length, getD, set, length-set}
-use lib.Dec.{eqb, ltb, leb}
 use borrow.Author.Tests.{lt-ltb, le-ltb}
-use Rattle.terms.specs.Below.{one, one-le, sumBelow, sum-same, sum-add, sum-beyond}
+use Rattle.terms.specs.Below.{one, one-le, sum-same, sum-add, sum-beyond}
 use Rattle.interval_store_manager.specs.declared.IntervalStoreManager.{IntervalStoreManager}
 use Rattle.interval_store_manager.specs.Intervals.{inside, holders, isFree, freeNumber}
 use Rattle.interval_store_manager.specs.WellFormed.{wellFormed}
 use Rattle.interval_store_manager.specs.Answers.{Outcome, outcome, done}
 use Rattle.interval_store_manager.specs.Calls.{manager, pushed, changed}
 use Rattle.interval_store_manager.specs.IntervalLaws.{inside-left, inside-right, inside-yes, interval-size}
-use Rattle.interval_store_manager.specs.StackLaws.{Bounded, sizes, sizes-none, free-number}
+use Rattle.interval_store_manager.specs.StackLaws.{Bounded, sizes, free-number}
 use Rattle.interval_store_manager.specs.Sound.{Sound, sound, sound-make, entries-le-capacity, free-le-capacity}
 use Rattle.interval_store_manager.specs.TopLaws.{push, bounded-fewer, bounded-wider, bounded-push}
 use Rattle.interval_store_manager.specs.FreeLaws.{free-more}

@@ -1,15 +1,14 @@
 -- From how many intervals hold each index to which indices are free, and how many.
-use Prim.Native.Nat.{ℕ, zero, suc, _+_, _-_, _≤_, _<_}
+use Prim.Native.Nat.{ℕ, _+_, _-_, _≤_, _<_}
 use native.Mathlib.Omega.{arith}
 use mathlib.Core.List.{List}
 use mathlib.Core.Bool.{Bool, true, false, not, _&&_, _||_, and-true, and-false, or-true, or-false}
 use mathlib.Core.Path.{_≡_, refl, sym, _∙_, ap}
-use lib.ListN.{length, getD}
-use lib.Dec.{leb, ltb, eqb}
+use lib.Dec.{ltb, eqb}
 use native.Mathlib.Decide.{decLt}
 use borrow.Author.Tests.{le-ltb, lt-ltb, ltb-false, ltb-true, eq-eqb, ne-eqb}
 use Rattle.terms.specs.Below.{one, sumBelow, sum-same, sum-add, sum-ones}
-use Rattle.interval_store_manager.specs.Intervals.{inside, holders, isFree, freeNumber}
+use Rattle.interval_store_manager.specs.Intervals.{inside, holders, isFree}
 use Rattle.interval_store_manager.specs.IntervalLaws.{inside-single, interval-size}
 use Rattle.interval_store_manager.specs.StackLaws.{sizes, entries-le-sizes}
 use Rattle.interval_store_manager.specs.Sound.{Sound}

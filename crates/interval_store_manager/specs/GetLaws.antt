@@ -1,13 +1,13 @@
 -- Laws of get, for every manager and stack: which of its two forms applies, what it leaves free, how many, and that the
 -- manager stays well-formed.
-use Prim.Native.Nat.{ℕ, zero, suc, _+_, _-_, _≤_, _<_}
+use Prim.Native.Nat.{ℕ, _+_, _-_, _≤_, _<_}
 use native.Mathlib.Omega.{arith}
 use native.Mathlib.Decide.{decLt}
 use mathlib.Core.List.{List}
-use mathlib.Core.Bool.{Bool, true, false, not, _&&_}
+use mathlib.Core.Bool.{true, not, _&&_}
 use mathlib.Core.Path.{_≡_, refl, sym, _∙_, ap}
-use lib.ListN.{length, getD, set, length-set}
-use lib.Dec.{eqb, ltb}
+use lib.ListN.{getD, set, length-set}
+use lib.Dec.{eqb}
 use borrow.Author.Tests.{eq-eqb, ne-eqb, lt-ltb}
 use Rattle.terms.specs.Below.{one}
 use Rattle.interval_store_manager.specs.declared.IntervalStoreManager.{IntervalStoreManager}
@@ -16,7 +16,7 @@ use Rattle.interval_store_manager.specs.WellFormed.{wellFormed}
 use Rattle.interval_store_manager.specs.Answers.{Outcome, outcome, given}
 use Rattle.interval_store_manager.specs.Calls.{manager, taken}
 use Rattle.interval_store_manager.specs.IntervalLaws.{inside-single, inside-first}
-use Rattle.interval_store_manager.specs.StackLaws.{sizes, free-number}
+use Rattle.interval_store_manager.specs.StackLaws.{free-number}
 use Rattle.interval_store_manager.specs.Sound.{Sound, sound, sound-make, entries-le-capacity, restacked}
 use Rattle.interval_store_manager.specs.TopLaws.{holders-top, top-start, bounded-fewer, bounded-start}
 use Rattle.interval_store_manager.specs.FreeLaws.{free-less, sizes-one}

@@ -2,11 +2,11 @@
 use Prim.Native.Nat.{ℕ, zero, suc, _+_, _-_, _≤_, _<_}
 use native.Mathlib.Omega.{arith}
 use native.Mathlib.Decide.{decLt}
-use mathlib.Core.Bool.{Bool, true, false, cond, _&&_, and-false}
-use mathlib.Core.Path.{_≡_, refl, sym, _∙_, ap}
-use lib.Dec.{leb, ltb, eqb}
+use mathlib.Core.Bool.{true, false, and-false}
+use mathlib.Core.Path.{_≡_, refl}
+use lib.Dec.{leb, eqb}
 use borrow.Author.Tests.{le-leb, lt-leb, eq-eqb, ne-eqb, leb-true}
-use Rattle.terms.specs.Below.{one, both, sumBelow, sum-same}
+use Rattle.terms.specs.Below.{one, both, sumBelow}
 use Rattle.interval_store_manager.specs.Intervals.{inside}
 
 pub inside-yes : (s e i : ℕ) → s ≤ i → i ≤ e → inside s e i ≡ true

@@ -3,7 +3,7 @@
 -- no part.
 use Prim.Native.Nat.{ℕ, zero, suc, _+_}
 use mathlib.Core.List.{List}
-use mathlib.Core.Bool.{Bool, true, false, _&&_}
+use mathlib.Core.Bool.{Bool, true, _&&_}
 use lib.ListN.{getD}
 use lib.Dec.{leb, ltb}
 use Rattle.terms.specs.Below.{one, countBelow, everyBelow}

@@ -7,7 +7,9 @@ pub mod StackLaws
 pub mod Sound
 pub mod TopLaws
 pub mod Marks
+pub mod MarkLaws
 pub mod FreeLaws
 pub mod GetLaws
 pub mod ReleaseLaws
 pub mod ChangeLaws
+pub mod DecisionLaws

@@ -1,17 +1,17 @@
 -- A manager's well-formedness as a record of named facts, for every capacity, stack and number of entries in use.
-use Prim.Native.Nat.{ℕ, _+_, _-_, _≤_, _<_}
+use Prim.Native.Nat.{ℕ, _≤_, _<_}
 use native.Mathlib.Omega.{arith}
 use mathlib.Core.List.{List}
-use mathlib.Core.Bool.{Bool, true, false, _&&_}
-use mathlib.Core.Path.{_≡_, refl, sym, _∙_, ap}
-use lib.ListN.{length, getD}
-use lib.Dec.{leb, ltb}
-use borrow.Author.Tests.{le-leb, leb-true, ltb-true, ltb-false}
+use mathlib.Core.Bool.{true}
+use mathlib.Core.Path.{_≡_}
+use lib.ListN.{length}
+use lib.Dec.{leb}
+use borrow.Author.Tests.{le-leb, leb-true}
 use Rattle.terms.specs.Below.{both, and-make, every-at, every-make, count-le}
 use Rattle.interval_store_manager.specs.declared.IntervalStoreManager.{IntervalStoreManager}
-use Rattle.interval_store_manager.specs.Intervals.{holders, isFree, freeNumber, inBounds, noneShared}
+use Rattle.interval_store_manager.specs.Intervals.{holders, isFree, freeNumber, noneShared}
 use Rattle.interval_store_manager.specs.WellFormed.{capacityAllowed, lentEnough, wellFormed}
-use Rattle.interval_store_manager.specs.StackLaws.{Bounded, bounded, bounded-make, sizes, entries-le-sizes, free-number}
+use Rattle.interval_store_manager.specs.StackLaws.{Bounded, bounded, bounded-make, entries-le-sizes, free-number}
 
 pub record Sound (capacity n : ℕ) (starts ends : List ℕ) : Type 0 where
   pub least : 1 ≤ capacity

@@ -4,14 +4,14 @@ use Prim.Native.Nat.{ℕ, zero, suc, _+_, _-_, _≤_, _<_}
 use native.Mathlib.Omega.{arith}
 use native.Mathlib.Decide.{decLt}
 use mathlib.Core.List.{List}
-use mathlib.Core.Bool.{Bool, true, false, cond, _&&_}
-use mathlib.Core.Path.{_≡_, refl, sym, _∙_, ap, ap₂}
+use mathlib.Core.Bool.{true, _&&_}
+use mathlib.Core.Path.{_≡_, refl, sym, _∙_, ap}
 use mathlib.Core.Logic.{⊎-elim}
-use lib.ListN.{length, getD, set}
+use lib.ListN.{getD, set}
 use lib.Seq.{getD-set-other}
-use lib.Dec.{leb, ltb, eqb}
+use lib.Dec.{leb, ltb}
 use borrow.Author.Tests.{le-leb, lt-ltb, le-ltb, leb-true, ltb-true}
-use Rattle.terms.specs.Below.{one, one-le, both, and-make, below-or-last, sumBelow, sum-same, sum-zeros, sum-add, sum-le, sum-tight, countBelow, everyBelow, every-at, every-make}
+use Rattle.terms.specs.Below.{one, one-le, both, and-make, below-or-last, sumBelow, sum-same, sum-zeros, sum-add, sum-le, sum-tight, countBelow, every-make}
 use Rattle.interval_store_manager.specs.Intervals.{inside, holders, isFree, freeNumber, inBounds, noneShared}
 use Rattle.interval_store_manager.specs.IntervalLaws.{interval-size}
 

@@ -5,13 +5,13 @@ use native.Mathlib.Omega.{arith}
 use native.Mathlib.Numerals.{add-one}
 use native.Mathlib.Decide.{decLt}
 use mathlib.Core.List.{List}
-use mathlib.Core.Path.{_≡_, refl, sym, _∙_, ap, ap₂}
+use mathlib.Core.Path.{_≡_, _∙_, ap₂}
 use mathlib.Core.Logic.{⊎-elim}
 use lib.ListN.{length, getD, set}
 use lib.Seq.{getD-set-other, getD-set-same}
 use Rattle.terms.specs.Below.{one, below-or-last}
 use Rattle.interval_store_manager.specs.Intervals.{inside, holders}
-use Rattle.interval_store_manager.specs.StackLaws.{Agree, agree-set, agree-self, holders-same, Bounded}
+use Rattle.interval_store_manager.specs.StackLaws.{agree-set, agree-self, holders-same, Bounded}
 
 -- the top counted apart from the rest
 pub holders-top : (n : ℕ) (ss es : List ℕ) (k : ℕ) → 0 < n → holders n ss es k ≡ holders (n - 1) ss es k + one (inside (getD ss (n - 1) 0) (getD es (n - 1) 0) k)

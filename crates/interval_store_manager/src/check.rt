@@ -1,10 +1,8 @@
 // Well-formedness of a manager in one linear pass: every free index is marked, and the marks are as many as the intervals'
 // sizes add up to exactly where no two intervals share an index.
-ghost use mathlib.Core.Bool.{Bool, true, false, _&&_};
 ghost use mathlib.Core.Path.{_≡_};
-ghost use Prim.Native.Nat.{ℕ, _<_, _≤_};
-ghost use lib.ListN.{length, getD, replicate};
-ghost use lib.Dec.{leb, ltb};
+ghost use Prim.Native.Nat.{ℕ, _≤_};
+ghost use lib.ListN.{length, getD};
 ghost use Rattle.terms.specs.Below.{sumBelow};
 ghost use Rattle.interval_store_manager.specs.WellFormed.{capacityAllowed, lentEnough, wellFormed};
 ghost use Rattle.interval_store_manager.specs.Marks.{filled, Unmarked, Swept, Marked, WellFormed};
@@ -42,8 +40,8 @@ pub fn lent_enough(n: usize, starts: &[u16], ends: &[u16]) -> bool
 }
 
 // Marks the indices from `from` up to `to`.
-fn fill_ones(marks: &mut [u8; 1024], from: usize, to: usize)
-    requires { ⌜ (from ≤ to) × (to ≤ 1024) ⌝ }
+fn fill_ones(marks: &mut [u8], from: usize, to: usize)
+    requires { ⌜ (from ≤ to) × (to ≤ length (now marks)) ⌝ }
     ensures { λ r. ⌜ ((k : ℕ) → getD (now (marks .exit)) k 0 ≡ filled (now (marks .entry)) from to k) ⌝ }
 {
     let mut i = from;
@@ -54,8 +52,8 @@ fn fill_ones(marks: &mut [u8; 1024], from: usize, to: usize)
 }
 
 // How many indices below the capacity are marked.
-fn count_ones(marks: &[u8; 1024], capacity: usize) -> usize
-    requires { ⌜ capacity ≤ 1024 ⌝ }
+fn count_ones(marks: &[u8], capacity: usize) -> usize
+    requires { ⌜ (capacity ≤ 1024) × (capacity ≤ length (now marks)) ⌝ }
     ensures { λ r. ⌜ r ≡ sumBelow capacity (λ k. getD (now (marks .entry)) k 0) ⌝ }
 {
     let mut total: usize = 0;
@@ -74,9 +72,15 @@ fn mark_intervals(
     n: usize,
     starts: &[u16],
     ends: &[u16],
+<<<<<<< HEAD
     marks: &mut [u8; 1024],
 ) -> Sizes
     requires { ⌜ (capacity ≤ 1024) × ((n ≤ length (now starts)) × ((n ≤ length (now ends)) × Unmarked (now marks))) ⌝ }
+=======
+    marks: &mut [u8],
+) -> Sizes
+    requires { ⌜ (capacity ≤ length (now marks)) × ((capacity ≤ 1024) × ((n ≤ length (now starts)) × ((n ≤ length (now ends)) × Unmarked (now marks)))) ⌝ }
+>>>>>>> main
     ensures { λ r. ⌜ Swept capacity n (now (starts .entry)) (now (ends .entry)) (now (marks .exit)) (r .ok) (r .total) ⌝ }
 {
     let mut total: usize = 0;
@@ -110,6 +114,7 @@ fn mark_intervals(
 }
 
 // Checks the manager and marks its free indices.
+<<<<<<< HEAD
 pub fn mark_free(
     m: IntervalStoreManager,
     starts: &[u16],
@@ -117,6 +122,10 @@ pub fn mark_free(
     marks: &mut [u8; 1024],
 ) -> Checked
     requires { ⌜ Unmarked (now marks) ⌝ }
+=======
+pub fn mark_free(m: IntervalStoreManager, starts: &[u16], ends: &[u16], marks: &mut [u8]) -> Checked
+    requires { ⌜ (1024 ≤ length (now marks)) × Unmarked (now marks) ⌝ }
+>>>>>>> main
     ensures { λ r. ⌜ Marked m (now (starts .entry)) (now (ends .entry)) (now (marks .exit)) (r .ok) (r .free) ⌝ }
 {
     let capacity = m.capacity;
@@ -144,5 +153,5 @@ pub fn well_formed(m: IntervalStoreManager, starts: &[u16], ends: &[u16]) -> Che
     ensures { λ r. ⌜ WellFormed m (now (starts .entry)) (now (ends .entry)) (r .ok) (r .free) ⌝ }
 {
     let mut marks = [0u8; 1024];
-    mark_free(m, starts, ends, &mut marks)
+    mark_free(m, starts, ends, &mut marks[..])
 }

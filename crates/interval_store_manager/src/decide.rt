@@ -52,7 +52,7 @@ pub fn release_decision(
     ensures { λ r. ⌜ decisionMeans r ≡ releaseDecided m (now (starts .entry)) (now (ends .entry)) index ⌝ }
 {
     let mut marks = [0u8; 1024];
-    let checked = mark_free(m, starts, ends, &mut marks);
+    let checked = mark_free(m, starts, ends, &mut marks[..]);
     let ok = checked.ok;
     if ok {
         if m.capacity <= index {

@@ -1,12 +1,10 @@
 -- Tests, sums and counts over the numbers below n, and the laws that tie them together.
-use Prim.Native.Nat.{ℕ, zero, suc, _+_, _-_, _≤_, _<_}
+use Prim.Native.Nat.{ℕ, zero, suc, _+_, _≤_, _<_}
 use native.Mathlib.Omega.{arith}
 use native.Mathlib.Decide.{decLt}
 use mathlib.Core.Bool.{Bool, true, false, cond, _&&_}
-use mathlib.Core.Path.{_≡_, refl, sym, _∙_, ap, ap₂}
+use mathlib.Core.Path.{_≡_, refl, ap₂}
 use mathlib.Core.Logic.{_⊎_, inl, inr, ⊎-elim}
-use lib.Dec.{leb, ltb, eqb}
-use borrow.Author.Tests.{le-leb, lt-leb, leb-true}
 
 -- the test holds of every number below n
 unfoldable pub everyBelow : ℕ → (ℕ → Bool) → Bool
@@ -34,9 +32,18 @@ both false b e = absurd (let z : _≡_ {A = ℕ} 0 1 = cc in omega arith)
 pub and-make : (a b : Bool) → a ≡ true → b ≡ true → a && b ≡ true
 and-make a b e f = rw (e, f)
 
+-- a test that cannot hold fails
+pub fails : (b : Bool) → (b ≡ true → ⊥) → b ≡ false
+fails true h = absurd (h refl)
+fails false h = refl
+
 -- a number below n + 1 is below n or is n
 pub below-or-last : (n i : ℕ) → i < suc n → (i < n) ⊎ (i ≡ n)
 below-or-last n i h = elim (decLt i n) [ yes l ↦ inl l | no g ↦ inr (omega arith) ]
+
+-- a number that is not 0 is above it
+pub positive : (n : ℕ) → (n ≡ 0 → ⊥) → 0 < n
+positive n d = elim (decLt 0 n) [ yes l ↦ l | no g ↦ absurd (d (omega arith)) ]
 
 pub every-at : (n : ℕ) (p : ℕ → Bool) → everyBelow n p ≡ true → (i : ℕ) → i < n → p i ≡ true
 unfolding everyBelow
@@ -93,6 +100,14 @@ sum-tight (suc n) f g h e i l =
 pub one-le : (b : Bool) → one b ≤ 1
 one-le true = omega arith
 one-le false = omega arith
+
+pub one-true : (b : Bool) → one b ≡ 1 → b ≡ true
+one-true true e = refl
+one-true false e = absurd (omega arith)
+
+pub one-false : (b : Bool) → (one b ≡ 1 → ⊥) → b ≡ false
+one-false true h = absurd (h refl)
+one-false false h = refl
 
 pub sum-ones : (n : ℕ) (f : ℕ → ℕ) → ((i : ℕ) → i < n → f i ≤ 1) → sumBelow n f ≤ n
 unfolding sumBelow

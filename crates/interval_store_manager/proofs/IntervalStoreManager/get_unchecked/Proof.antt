@@ -1,58 +1,48 @@
-use borrow.Author.Needs.{needs}
-use Rattle.interval_store_manager.proofs.IntervalStoreManager.get_unchecked.Statement.{
-  statement,
-}
+-- The two returns are the two forms of get.
+use Prim.Native.Nat.{_-_}
+use native.Mathlib.Omega.{arith}
+use borrow.Author.Needs.{needs, scaled-fits}
+use mathlib.Core.Path.{sym}
+use Rattle.interval_store_manager.specs.Sound.{sound}
+use Rattle.interval_store_manager.specs.GetLaws.{next-below, taken-pop, taken-keep}
+use Rattle.interval_store_manager.proofs.IntervalStoreManager.get_unchecked.Statement.{statement}
 use Rattle.interval_store_manager.proofs.IntervalStoreManager.get_unchecked.Tie as tie
-use Rattle.interval_store_manager.proofs.IntervalStoreManager.get_unchecked.Reads as reads
-use Rattle.interval_store_manager.proofs.IntervalStoreManager.get_unchecked.Lts as lts
 
--- src/unchecked.rt:32:19
 sub-top : tie.Need-sub-top
 sub-top c = search needs
 
--- src/unchecked.rt:33:21
 mul-start : tie.Need-mul-start
-mul-start c = ?
+mul-start c = scaled-fits _ _ _ (omega (arith, sound (c .before .args .self) (c .before .args .starts .now) (c .before .args .ends .now) (c .before .pre .0) .starts-used, c .before .pre .1)) (c .before .good .1 .0 .1)
 
--- src/unchecked.rt:33:21
 slice-read-start : tie.Need-slice-read-start
-slice-read-start c = ?
+slice-read-start c = omega (arith, sound (c .before .before .args .self) (c .before .before .args .starts .now) (c .before .before .args .ends .now) (c .before .before .pre .0) .starts-used, c .before .before .pre .1)
 
--- src/unchecked.rt:34:21
 cast-index : tie.Need-cast-index
-cast-index c = ?
+cast-index c = omega (arith, c .slice-known .given (c .before .before .args .self .last_in_use - 1))
 
--- src/unchecked.rt:35:21
 mul-if1 : tie.Need-mul-if1
-mul-if1 c = ?
+mul-if1 c = scaled-fits _ _ _ (omega (arith, sound (c .before .before .args .self) (c .before .before .args .starts .now) (c .before .before .args .ends .now) (c .before .before .pre .0) .ends-used, c .before .before .pre .1)) (c .before .before .good .1 .1 .0 .1)
 
--- src/unchecked.rt:35:21
 shared-slice-read-if1 : tie.Need-shared-slice-read-if1
-shared-slice-read-if1 c = ?
+shared-slice-read-if1 c = omega (arith, sound (c .before .before .before .args .self) (c .before .before .before .args .starts .now) (c .before .before .before .args .ends .now) (c .before .before .before .pre .0) .ends-used, c .before .before .before .pre .1)
 
--- src/unchecked.rt:36:13
 returns : tie.Need-returns
-returns c = ?
+returns c = sym (taken-pop (c .before .before .before .before .args .self .capacity) (c .before .before .before .before .args .self .last_in_use) (c .before .before .before .before .args .starts .now) (c .before .before .before .before .args .ends .now) (c .if1 .taken))
 
--- src/unchecked.rt:44:23
 add-starts : tie.Need-add-starts
-add-starts c = ?
+add-starts c = omega (arith, next-below (c .before .before .before .before .args .self .capacity) (c .before .before .before .before .args .self .last_in_use) (c .before .before .before .before .args .starts .now) (c .before .before .before .before .args .ends .now) (sound (c .before .before .before .before .args .self) (c .before .before .before .before .args .starts .now) (c .before .before .before .before .args .ends .now) (c .before .before .before .before .pre .0)) (c .before .before .before .before .pre .1), sound (c .before .before .before .before .args .self) (c .before .before .before .before .args .starts .now) (c .before .before .before .before .args .ends .now) (c .before .before .before .before .pre .0) .most)
 
--- src/unchecked.rt:44:9
 mul-starts : tie.Need-mul-starts
-mul-starts c = ?
+mul-starts c = scaled-fits _ _ _ (omega (arith, sound (c .before .before .before .before .args .self) (c .before .before .before .before .args .starts .now) (c .before .before .before .before .args .ends .now) (c .before .before .before .before .pre .0) .starts-used, c .before .before .before .before .pre .1)) (c .before .before .before .before .good .1 .0 .1)
 
--- src/unchecked.rt:44:9
 slice-write-starts : tie.Need-slice-write-starts
-slice-write-starts c = ?
+slice-write-starts c = omega (arith, sound (c .before .before .before .before .args .self) (c .before .before .before .before .args .starts .now) (c .before .before .before .before .args .ends .now) (c .before .before .before .before .pre .0) .starts-used, c .before .before .before .before .pre .1)
 
--- src/unchecked.rt:28:5
 same-length : tie.Need-same-length
 same-length c = search needs
 
--- src/unchecked.rt:28:5
 returns-2 : tie.Need-returns-2
-returns-2 c = ?
+returns-2 c = sym (taken-keep (c .before .before .before .before .args .self .capacity) (c .before .before .before .before .args .self .last_in_use) (c .before .before .before .before .args .starts .now) (c .before .before .before .before .args .ends .now) (c .if1 .left))
 
 pub get-unchecked-spec : {M : Type 1} → statement M
 get-unchecked-spec =

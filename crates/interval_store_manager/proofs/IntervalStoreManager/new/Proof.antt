@@ -1,62 +1,53 @@
+-- Each return follows from the tests that led to it.
 use borrow.Author.Needs.{needs}
+use native.Mathlib.Omega.{arith}
+use mathlib.Core.Path.{sym, _∙_}
+use Rattle.interval_store_manager.specs.Sound.{allowed, lent}
+use Rattle.interval_store_manager.specs.Calls.{newSpec}
 use Rattle.interval_store_manager.proofs.IntervalStoreManager.new.Statement.{statement}
 use Rattle.interval_store_manager.proofs.IntervalStoreManager.new.Tie as tie
-use Rattle.interval_store_manager.proofs.IntervalStoreManager.new.Reads as reads
-use Rattle.interval_store_manager.proofs.IntervalStoreManager.new.Lts as lts
-use Rattle.interval_store_manager.proofs.check.capacity_allowed.Reads as capacity-allowed-reads
-use Rattle.interval_store_manager.proofs.check.lent_enough.Reads as lent-enough-reads
 
--- src/lib.rt:84:12
 capacity-allowed-requires : tie.Need-capacity-allowed-requires
 capacity-allowed-requires c κs = search needs
 
--- src/lib.rt:85:16
 lent-enough-requires : tie.Need-lent-enough-requires
 lent-enough-requires c κs = search needs
 
--- src/lib.rt:86:17
 slice-write-starts : tie.Need-slice-write-starts
-slice-write-starts c = ?
+slice-write-starts c = let a = allowed (c .before .before .before .before .before .before .before .before .args .size) (sym (c .before .before .before .before .before .capacity-allowed .ensures) ∙ c .before .before .before .before .if1 .taken) in let g = lent (c .before .before .before .before .before .before .before .before .args .size) (c .before .before .before .before .before .before .before .before .args .starts .now) (c .before .before .before .before .before .before .before .before .args .ends .now) (sym (c .before .lent-enough .ensures) ∙ c .if2 .taken) in omega arith
 
--- src/lib.rt:87:28
 sub-ends : tie.Need-sub-ends
-sub-ends c = ?
+sub-ends c = let a = allowed (c .before .before .before .before .before .before .before .before .args .size) (sym (c .before .before .before .before .before .capacity-allowed .ensures) ∙ c .before .before .before .before .if1 .taken) in let g = lent (c .before .before .before .before .before .before .before .before .args .size) (c .before .before .before .before .before .before .before .before .args .starts .now) (c .before .before .before .before .before .before .before .before .args .ends .now) (sym (c .before .lent-enough .ensures) ∙ c .if2 .taken) in omega arith
 
--- src/lib.rt:87:27
 cast-ends : tie.Need-cast-ends
-cast-ends c = ?
+cast-ends c = let a = allowed (c .before .before .before .before .before .before .before .before .args .size) (sym (c .before .before .before .before .before .capacity-allowed .ensures) ∙ c .before .before .before .before .if1 .taken) in let g = lent (c .before .before .before .before .before .before .before .before .args .size) (c .before .before .before .before .before .before .before .before .args .starts .now) (c .before .before .before .before .before .before .before .before .args .ends .now) (sym (c .before .lent-enough .ensures) ∙ c .if2 .taken) in omega arith
 
--- src/lib.rt:87:17
 slice-write-ends : tie.Need-slice-write-ends
-slice-write-ends c = ?
+slice-write-ends c = let a = allowed (c .before .before .before .before .before .before .before .before .args .size) (sym (c .before .before .before .before .before .capacity-allowed .ensures) ∙ c .before .before .before .before .if1 .taken) in let g = lent (c .before .before .before .before .before .before .before .before .args .size) (c .before .before .before .before .before .before .before .before .args .starts .now) (c .before .before .before .before .before .before .before .before .args .ends .now) (sym (c .before .lent-enough .ensures) ∙ c .if2 .taken) in omega arith
 
--- src/lib.rt:88:17
 same-length : tie.Need-same-length
 same-length c = search needs
 
--- src/lib.rt:88:17
 same-length-2 : tie.Need-same-length-2
 same-length-2 c = search needs
 
--- src/lib.rt:88:17
 returns : tie.Need-returns
-returns c = ?
+unfolding newSpec
+returns c = rw ((sym (c .before .before .before .before .before .capacity-allowed .ensures) ∙ c .before .before .before .before .if1 .taken), (sym (c .before .lent-enough .ensures) ∙ c .if2 .taken))
 
--- src/lib.rt:93:13
 same-length-3 : tie.Need-same-length-3
 same-length-3 c = search needs
 
--- src/lib.rt:93:13
 same-length-4 : tie.Need-same-length-4
 same-length-4 c = search needs
 
--- src/lib.rt:93:13
 returns-2 : tie.Need-returns-2
-returns-2 c = ?
+unfolding newSpec
+returns-2 c = rw ((sym (c .before .before .before .before .before .capacity-allowed .ensures) ∙ c .before .before .before .before .if1 .taken), (sym (c .before .lent-enough .ensures) ∙ c .if2 .left))
 
--- src/lib.rt:81:5
 returns-3 : tie.Need-returns-3
-returns-3 c = ?
+unfolding newSpec
+returns-3 c = rw (sym (c .before .capacity-allowed .ensures) ∙ c .if1 .left)
 
 pub new-spec : {M : Type 1} → statement M
 new-spec =

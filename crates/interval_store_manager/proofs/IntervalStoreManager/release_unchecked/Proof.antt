@@ -1,119 +1,103 @@
-use borrow.Author.Needs.{needs}
-use Rattle.interval_store_manager.proofs.IntervalStoreManager.release_unchecked.Statement.{
-  statement,
-}
+-- The four returns are the forms of release.
+use Prim.Native.Nat.{_-_, _≤_}
+use native.Mathlib.Omega.{arith}
+use borrow.Author.Needs.{needs, scaled-fits}
+use mathlib.Core.Path.{sym, _∙_}
+use Rattle.terms.specs.Below.{positive}
+use Rattle.interval_store_manager.specs.Sound.{sound}
+use Rattle.interval_store_manager.specs.FreeLaws.{not-free-held, room}
+use Rattle.interval_store_manager.specs.ReleaseLaws.{released-first, released-start, released-end, released-apart}
+use Rattle.interval_store_manager.proofs.IntervalStoreManager.release_unchecked.Statement.{statement}
 use Rattle.interval_store_manager.proofs.IntervalStoreManager.release_unchecked.Tie as tie
-use Rattle.interval_store_manager.proofs.IntervalStoreManager.release_unchecked.Reads as reads
-use Rattle.interval_store_manager.proofs.IntervalStoreManager.release_unchecked.Lts as lts
-use Rattle.interval_store_manager.proofs.IntervalStoreManager.push.Reads as push-reads
 
--- src/unchecked.rt:58:13
 push-requires : tie.Need-push-requires
-push-requires c κs = ?
+push-requires c κs =
+    let s = sound (c .before .before .before .before .before .args .self) (c .before .before .before .before .before .args .starts .now) (c .before .before .before .before .before .args .ends .now) (c .before .before .before .before .before .pre .0) in
+    let more = room (c .before .before .before .before .before .args .index) (sound (c .before .before .before .before .before .args .self) (c .before .before .before .before .before .args .starts .now) (c .before .before .before .before .before .args .ends .now) (c .before .before .before .before .before .pre .0)) (c .before .before .before .before .before .pre .1 .0) (not-free-held (c .before .before .before .before .before .args .self .last_in_use) (c .before .before .before .before .before .args .starts .now) (c .before .before .before .before .before .args .ends .now) (c .before .before .before .before .before .args .index) (c .before .before .before .before .before .pre .1 .1)) in
+    let few : c .before .before .before .before .before .args .index ≤ 1023 = omega (arith, s .most, c .before .before .before .before .before .pre .1 .0) in
+    (omega (arith, s .starts-lent), (omega (arith, s .ends-lent), (few, few)))
 
--- src/unchecked.rt:58:13
 same-length : tie.Need-same-length
 same-length c = search needs
 
--- src/unchecked.rt:58:13
 same-length-2 : tie.Need-same-length-2
 same-length-2 c = search needs
 
--- src/unchecked.rt:58:13
 returns : tie.Need-returns
-returns c = ?
+returns c = c .before .before .before .before .push .ensures ∙ sym (released-first (c .before .before .before .before .before .before .before .before .before .before .args .self .capacity) (c .before .before .before .before .before .before .before .before .before .before .args .self .last_in_use) (c .before .before .before .before .before .before .before .before .before .before .args .starts .now) (c .before .before .before .before .before .before .before .before .before .before .args .ends .now) (c .before .before .before .before .before .before .before .before .before .before .args .index) (c .before .before .before .before .before .before .before .if1 .taken))
 
--- src/unchecked.rt:60:19
 sub-top : tie.Need-sub-top
 sub-top c = search needs
 
--- src/unchecked.rt:61:21
 mul-start : tie.Need-mul-start
-mul-start c = ?
+mul-start c = let h = (positive (c .before .before .before .args .self .last_in_use) (c .if1 .left)) in scaled-fits _ _ _ (omega (arith, sound (c .before .before .before .args .self) (c .before .before .before .args .starts .now) (c .before .before .before .args .ends .now) (c .before .before .before .pre .0) .starts-used)) (c .before .before .before .good .1 .0 .1)
 
--- src/unchecked.rt:61:21
 slice-read-start : tie.Need-slice-read-start
-slice-read-start c = ?
+slice-read-start c = let h = (positive (c .before .before .before .before .args .self .last_in_use) (c .before .if1 .left)) in omega (arith, sound (c .before .before .before .before .args .self) (c .before .before .before .before .args .starts .now) (c .before .before .before .before .args .ends .now) (c .before .before .before .before .pre .0) .starts-used)
 
--- src/unchecked.rt:61:21
 cast-start : tie.Need-cast-start
-cast-start c = ?
+cast-start c = omega (arith, c .slice-known5 .given (c .before .before .before .before .args .self .last_in_use - 1))
 
--- src/unchecked.rt:62:21
 add-if2 : tie.Need-add-if2
 add-if2 c = search needs
 
--- src/unchecked.rt:63:27
 cast-starts : tie.Need-cast-starts
-cast-starts c = ?
+cast-starts c = omega (arith, sound (c .before .before .before .before .before .args .self) (c .before .before .before .before .before .args .starts .now) (c .before .before .before .before .before .args .ends .now) (c .before .before .before .before .before .pre .0) .most, c .before .before .before .before .before .pre .1 .0)
 
--- src/unchecked.rt:63:13
 mul-starts : tie.Need-mul-starts
-mul-starts c = ?
+mul-starts c = let h = (positive (c .before .before .before .before .before .args .self .last_in_use) (c .before .before .if1 .left)) in scaled-fits _ _ _ (omega (arith, sound (c .before .before .before .before .before .args .self) (c .before .before .before .before .before .args .starts .now) (c .before .before .before .before .before .args .ends .now) (c .before .before .before .before .before .pre .0) .starts-used)) (c .before .before .before .before .before .good .1 .0 .1)
 
--- src/unchecked.rt:63:13
 slice-write-starts : tie.Need-slice-write-starts
-slice-write-starts c = ?
+slice-write-starts c = let h = (positive (c .before .before .before .before .before .args .self .last_in_use) (c .before .before .if1 .left)) in omega (arith, sound (c .before .before .before .before .before .args .self) (c .before .before .before .before .before .args .starts .now) (c .before .before .before .before .before .args .ends .now) (c .before .before .before .before .before .pre .0) .starts-used)
 
--- src/unchecked.rt:64:13
 same-length-3 : tie.Need-same-length-3
 same-length-3 c = search needs
 
--- src/unchecked.rt:64:13
 returns-2 : tie.Need-returns-2
-returns-2 c = ?
+returns-2 c = sym (released-start (c .before .before .before .before .before .args .self .capacity) (c .before .before .before .before .before .args .self .last_in_use) (c .before .before .before .before .before .args .starts .now) (c .before .before .before .before .before .args .ends .now) (c .before .before .before .before .before .args .index) (positive (c .before .before .before .before .before .args .self .last_in_use) (c .before .before .if1 .left)) (c .if2 .taken))
 
--- src/unchecked.rt:66:19
 mul-end : tie.Need-mul-end
-mul-end c = ?
+mul-end c = let h = (positive (c .before .before .before .before .before .args .self .last_in_use) (c .before .before .if1 .left)) in scaled-fits _ _ _ (omega (arith, sound (c .before .before .before .before .before .args .self) (c .before .before .before .before .before .args .starts .now) (c .before .before .before .before .before .args .ends .now) (c .before .before .before .before .before .pre .0) .ends-used)) (c .before .before .before .before .before .good .1 .1 .0 .1)
 
--- src/unchecked.rt:66:19
 slice-read-end : tie.Need-slice-read-end
-slice-read-end c = ?
+slice-read-end c = let h = (positive (c .before .before .before .before .before .before .args .self .last_in_use) (c .before .before .before .if1 .left)) in omega (arith, sound (c .before .before .before .before .before .before .args .self) (c .before .before .before .before .before .before .args .starts .now) (c .before .before .before .before .before .before .args .ends .now) (c .before .before .before .before .before .before .pre .0) .ends-used)
 
--- src/unchecked.rt:66:19
 cast-end : tie.Need-cast-end
-cast-end c = ?
+cast-end c = omega (arith, c .slice-known6 .given (c .before .before .before .before .before .before .args .self .last_in_use - 1))
 
--- src/unchecked.rt:67:12
 add-if3 : tie.Need-add-if3
-add-if3 c = ?
+add-if3 c = omega (arith, c .slice-known6 .given (c .before .before .before .before .before .before .args .self .last_in_use - 1))
 
--- src/unchecked.rt:68:25
 cast-ends : tie.Need-cast-ends
-cast-ends c = ?
+cast-ends c = omega (arith, sound (c .before .before .before .before .before .before .before .args .self) (c .before .before .before .before .before .before .before .args .starts .now) (c .before .before .before .before .before .before .before .args .ends .now) (c .before .before .before .before .before .before .before .pre .0) .most, c .before .before .before .before .before .before .before .pre .1 .0)
 
--- src/unchecked.rt:68:13
 mul-ends : tie.Need-mul-ends
-mul-ends c = ?
+mul-ends c = let h = (positive (c .before .before .before .before .before .before .before .args .self .last_in_use) (c .before .before .before .before .if1 .left)) in scaled-fits _ _ _ (omega (arith, sound (c .before .before .before .before .before .before .before .args .self) (c .before .before .before .before .before .before .before .args .starts .now) (c .before .before .before .before .before .before .before .args .ends .now) (c .before .before .before .before .before .before .before .pre .0) .ends-used)) (c .before .before .before .before .before .before .before .good .1 .1 .0 .1)
 
--- src/unchecked.rt:68:13
 slice-write-ends : tie.Need-slice-write-ends
-slice-write-ends c = ?
+slice-write-ends c = let h = (positive (c .before .before .before .before .before .before .before .args .self .last_in_use) (c .before .before .before .before .if1 .left)) in omega (arith, sound (c .before .before .before .before .before .before .before .args .self) (c .before .before .before .before .before .before .before .args .starts .now) (c .before .before .before .before .before .before .before .args .ends .now) (c .before .before .before .before .before .before .before .pre .0) .ends-used)
 
--- src/unchecked.rt:69:13
 same-length-4 : tie.Need-same-length-4
 same-length-4 c = search needs
 
--- src/unchecked.rt:69:13
 returns-3 : tie.Need-returns-3
-returns-3 c = ?
+returns-3 c = sym (released-end (c .before .before .before .before .before .before .before .args .self .capacity) (c .before .before .before .before .before .before .before .args .self .last_in_use) (c .before .before .before .before .before .before .before .args .starts .now) (c .before .before .before .before .before .before .before .args .ends .now) (c .before .before .before .before .before .before .before .args .index) (positive (c .before .before .before .before .before .before .before .args .self .last_in_use) (c .before .before .before .before .if1 .left)) (c .before .before .if2 .left) (c .if3 .taken))
 
--- src/unchecked.rt:71:9
 push-requires-2 : tie.Need-push-requires-2
-push-requires-2 c κs = ?
+push-requires-2 c κs =
+    let s = sound (c .before .before .before .before .before .before .before .before .before .args .self) (c .before .before .before .before .before .before .before .before .before .args .starts .now) (c .before .before .before .before .before .before .before .before .before .args .ends .now) (c .before .before .before .before .before .before .before .before .before .pre .0) in
+    let more = room (c .before .before .before .before .before .before .before .before .before .args .index) (sound (c .before .before .before .before .before .before .before .before .before .args .self) (c .before .before .before .before .before .before .before .before .before .args .starts .now) (c .before .before .before .before .before .before .before .before .before .args .ends .now) (c .before .before .before .before .before .before .before .before .before .pre .0)) (c .before .before .before .before .before .before .before .before .before .pre .1 .0) (not-free-held (c .before .before .before .before .before .before .before .before .before .args .self .last_in_use) (c .before .before .before .before .before .before .before .before .before .args .starts .now) (c .before .before .before .before .before .before .before .before .before .args .ends .now) (c .before .before .before .before .before .before .before .before .before .args .index) (c .before .before .before .before .before .before .before .before .before .pre .1 .1)) in
+    let few : c .before .before .before .before .before .before .before .before .before .args .index ≤ 1023 = omega (arith, s .most, c .before .before .before .before .before .before .before .before .before .pre .1 .0) in
+    (omega (arith, s .starts-lent), (omega (arith, s .ends-lent), (few, few)))
 
--- src/unchecked.rt:51:5
 same-length-5 : tie.Need-same-length-5
 same-length-5 c = search needs
 
--- src/unchecked.rt:51:5
 same-length-6 : tie.Need-same-length-6
 same-length-6 c = search needs
 
--- src/unchecked.rt:51:5
 returns-4 : tie.Need-returns-4
-returns-4 c = ?
+returns-4 c = c .before .before .before .before .push2 .ensures ∙ sym (released-apart (c .before .before .before .before .before .before .before .before .before .before .before .before .before .before .args .self .capacity) (c .before .before .before .before .before .before .before .before .before .before .before .before .before .before .args .self .last_in_use) (c .before .before .before .before .before .before .before .before .before .before .before .before .before .before .args .starts .now) (c .before .before .before .before .before .before .before .before .before .before .before .before .before .before .args .ends .now) (c .before .before .before .before .before .before .before .before .before .before .before .before .before .before .args .index) (positive (c .before .before .before .before .before .before .before .before .before .before .before .before .before .before .args .self .last_in_use) (c .before .before .before .before .before .before .before .before .before .before .before .if1 .left)) (c .before .before .before .before .before .before .before .before .before .if2 .left) (c .before .before .before .before .before .before .before .if3 .left))
 
 pub release-unchecked-spec : {M : Type 1} → statement M
 release-unchecked-spec =

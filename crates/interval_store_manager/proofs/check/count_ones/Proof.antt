@@ -1,45 +1,51 @@
+-- The invariant: the sum so far is that of the marks below i. A byte is below 256, so the sum fits.
+use Prim.Native.Nat.{_≤_, _-_, _*_}
+use native.Mathlib.Omega.{arith}
+use native.Mathlib.Numerals.{add-one}
+use mathlib.Core.Path.{_≡_, refl}
+use lib.ListN.{getD}
+use Rattle.terms.specs.Below.{sumBelow}
 use Rattle.interval_store_manager.proofs.check.count_ones.Statement.{statement}
 use Rattle.interval_store_manager.proofs.check.count_ones.Tie as tie
-use Rattle.interval_store_manager.proofs.check.count_ones.Reads as reads
-use Rattle.interval_store_manager.proofs.check.count_ones.Lts as lts
 
 abbrev Inv-loop : tie.InvT-loop
-Inv-loop marks capacity total₀ i₀ total i = ?
+Inv-loop marks capacity total₀ i₀ total i = (i ≤ capacity) × ((total ≡ sumBelow i (λ k. getD marks k 0)) × (total ≤ 255 * i))
 
 abbrev μ-loop : tie.MeasureT-loop
-μ-loop marks capacity total₀ i₀ total i = ?
+μ-loop marks capacity total₀ i₀ total i = capacity - i
 
--- src/check.rt:64:5
 loop-holds : tie.Need-loop-holds Inv-loop μ-loop
-loop-holds c = ?
+unfolding sumBelow
+loop-holds c = (omega arith, (refl, omega arith))
 
--- src/check.rt:65:18
-element-copy-out-total : tie.Need-element-copy-out-total Inv-loop μ-loop
-element-copy-out-total c = ?
+shared-slice-read-total : tie.Need-shared-slice-read-total Inv-loop μ-loop
+shared-slice-read-total c = omega arith
 
--- src/check.rt:65:18
 cast-total : tie.Need-cast-total Inv-loop μ-loop
-cast-total c = ?
+cast-total c = omega (arith, c .shared-slice-known .given (c .before .before .loop .i))
 
--- src/check.rt:65:9
 add-total : tie.Need-add-total Inv-loop μ-loop
-add-total c = ?
+add-total c = omega (arith, c .shared-slice-known .given (c .before .before .loop .i))
 
--- src/check.rt:66:9
 add-i : tie.Need-add-i Inv-loop μ-loop
-add-i c = ?
+add-i c = omega arith
 
--- src/check.rt:64:5
 loop-less : tie.Need-loop-less Inv-loop μ-loop
-loop-less c = ?
+loop-less c = omega arith
 
--- src/check.rt:64:5
 loop-again : tie.Need-loop-again Inv-loop μ-loop
-loop-again c = ?
+unfolding sumBelow
+loop-again c = (
+  omega arith,
+  (
+    rw add-one (omega (arith, c .before .before .loop .inv .1 .0)),
+    omega (arith, c .shared-slice-known .given (c .before .before .loop .i)),
+  ),
+)
 
--- src/check.rt:58:1
 returns : tie.Need-returns Inv-loop μ-loop
-returns c = ?
+returns c =
+    let e : c .before .loop .i ≡ c .before .before .args .capacity = omega arith in rw e at (c .before .loop .inv .1 .0)
 
 pub count-ones-spec : {M : Type 1} → statement M
 count-ones-spec =
@@ -48,7 +54,7 @@ count-ones-spec =
     Inv-loop
     μ-loop
     loop-holds
-    element-copy-out-total
+    shared-slice-read-total
     cast-total
     add-total
     add-i

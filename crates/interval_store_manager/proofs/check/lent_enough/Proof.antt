@@ -1,15 +1,17 @@
+-- Each return follows from the test that led to it.
+use borrow.Author.Tests.{le-leb, lt-leb}
+use lib.ListN.{length}
+use Rattle.interval_store_manager.specs.WellFormed.{lentEnough}
 use Rattle.interval_store_manager.proofs.check.lent_enough.Statement.{statement}
 use Rattle.interval_store_manager.proofs.check.lent_enough.Tie as tie
-use Rattle.interval_store_manager.proofs.check.lent_enough.Reads as reads
-use Rattle.interval_store_manager.proofs.check.lent_enough.Lts as lts
 
--- src/check.rt:40:9
 returns : tie.Need-returns
-returns c = ?
+unfolding lentEnough
+returns c = rw (lt-leb (c .before .args .n) (length (c .before .args .starts .now)) (c .if1 .taken))
 
--- src/check.rt:36:1
 returns-2 : tie.Need-returns-2
-returns-2 c = ?
+unfolding lentEnough
+returns-2 c = rw (le-leb (c .before .args .n) (length (c .before .args .starts .now)) (c .if1 .left))
 
 pub lent-enough-spec : {M : Type 1} → statement M
 lent-enough-spec = tie.close (tie.spec returns returns-2)
