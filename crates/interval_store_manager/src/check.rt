@@ -72,15 +72,9 @@ fn mark_intervals(
     n: usize,
     starts: &[u16],
     ends: &[u16],
-<<<<<<< HEAD
-    marks: &mut [u8; 1024],
-) -> Sizes
-    requires { ⌜ (capacity ≤ 1024) × ((n ≤ length (now starts)) × ((n ≤ length (now ends)) × Unmarked (now marks))) ⌝ }
-=======
     marks: &mut [u8],
 ) -> Sizes
     requires { ⌜ (capacity ≤ length (now marks)) × ((capacity ≤ 1024) × ((n ≤ length (now starts)) × ((n ≤ length (now ends)) × Unmarked (now marks)))) ⌝ }
->>>>>>> main
     ensures { λ r. ⌜ Swept capacity n (now (starts .entry)) (now (ends .entry)) (now (marks .exit)) (r .ok) (r .total) ⌝ }
 {
     let mut total: usize = 0;
@@ -114,18 +108,8 @@ fn mark_intervals(
 }
 
 // Checks the manager and marks its free indices.
-<<<<<<< HEAD
-pub fn mark_free(
-    m: IntervalStoreManager,
-    starts: &[u16],
-    ends: &[u16],
-    marks: &mut [u8; 1024],
-) -> Checked
-    requires { ⌜ Unmarked (now marks) ⌝ }
-=======
 pub fn mark_free(m: IntervalStoreManager, starts: &[u16], ends: &[u16], marks: &mut [u8]) -> Checked
     requires { ⌜ (1024 ≤ length (now marks)) × Unmarked (now marks) ⌝ }
->>>>>>> main
     ensures { λ r. ⌜ Marked m (now (starts .entry)) (now (ends .entry)) (now (marks .exit)) (r .ok) (r .free) ⌝ }
 {
     let capacity = m.capacity;
