@@ -1,3 +1,5 @@
 pub mod Below
 pub mod Refusals
 pub mod Rows
+pub mod Search
+pub mod Sums

@@ -1,0 +1,190 @@
+-- Laws of a table of counts with its manager, for every capacity: each operation keeps it well-formed, and what it does to
+-- the counts.
+use Prim.Native.Nat.{ℕ, _+_, _-_, _≤_, _<_}
+use native.Mathlib.Omega.{arith}
+use native.Mathlib.Decide.{decLt, ℕ-discrete}
+use mathlib.Core.List.{List}
+use mathlib.Core.Bool.{Bool, true, false, cond, not, _&&_, _||_, Bool·beq, and-true, and-false, or-true, or-false}
+use mathlib.Core.Path.{_≡_, refl, sym, _∙_, ap}
+use lib.ListN.{length, getD, set, length-set}
+use lib.Seq.{getD-set-same, getD-set-other}
+use lib.Dec.{leb, ltb, eqb}
+use borrow.Author.Tests.{eq-eqb, ne-eqb, eqb-true, eqb-false, le-leb, leb-true}
+use Rattle.terms.specs.Below.{both, and-make, everyBelow, every-at, every-make}
+use Rattle.interval_store_manager.specs.declared.IntervalStoreManager.{IntervalStoreManager}
+use Rattle.interval_store_manager.specs.Intervals.{isFree}
+use Rattle.interval_store_manager.specs.WellFormed.{wellFormed}
+use Rattle.interval_store_manager.specs.Sound.{Sound, sound}
+use Rattle.interval_store_manager.specs.Answers.{Outcome}
+use Rattle.interval_store_manager.specs.Calls.{taken, released}
+use Rattle.interval_store_manager.specs.GetLaws.{next, next-below, get-keeps, get-free, get-was-free, took}
+use Rattle.interval_store_manager.specs.ReleaseLaws.{gave, release-keeps, release-free}
+use Rattle.interval_store_manager.specs.FreeLaws.{not-free-held, empty-stack}
+use Rattle.labels.specs.Counted.{Counted, counted, countAt, free, nextIndex, countedWell, indexTaken, raised, lowered}
+
+pub beq-same : (a b : Bool) → Bool·beq a b ≡ true → a ≡ b
+beq-same true true e = refl
+beq-same false false e = refl
+beq-same true false e = absurd (let z : _≡_ {A = ℕ} 0 1 = cc in omega arith)
+beq-same false true e = absurd (let z : _≡_ {A = ℕ} 0 1 = cc in omega arith)
+
+pub same-beq : (a b : Bool) → a ≡ b → Bool·beq a b ≡ true
+same-beq true b e = rw (sym e)
+same-beq false b e = rw (sym e)
+
+-- well-formedness as named facts
+pub record WellCounted (capacity : ℕ) (t : Counted) : Type 0 where
+  pub managed : wellFormed (t .manager) (t .starts) (t .ends) ≡ true
+  pub whole : t .manager .capacity ≡ capacity
+  pub lent : capacity ≤ length (t .counts)
+  pub free-is : (i : ℕ) → i < capacity → free t i ≡ eqb (countAt t i) 0
+
+pub well-counted : (c : ℕ) (t : Counted) → countedWell c t ≡ true → WellCounted c t
+unfolding countedWell
+well-counted c t e =
+    let p = both _ _ e in
+    let q = both _ _ (p .1) in
+    let r = both _ _ (q .1) in
+    record {
+      managed = p .0;
+      whole = eqb-true (t .manager .capacity) c (q .0);
+      lent = leb-true c (length (t .counts)) (r .0);
+      free-is = λ i l.
+          beq-same (free t i) (eqb (countAt t i) 0)
+          (every-at c (λ k. Bool·beq (free t k) (eqb (countAt t k) 0)) (r .1) i l);
+    }
+
+pub well-counted-make : (c : ℕ) (t : Counted) → WellCounted c t → countedWell c t ≡ true
+unfolding countedWell
+well-counted-make c t w =
+    and-make _ _ (w .managed)
+    (and-make _ _ (eq-eqb (t .manager .capacity) c (w .whole))
+    (and-make _ _ (le-leb c (length (t .counts)) (w .lent))
+    (every-make c (λ k. Bool·beq (free t k) (eqb (countAt t k) 0))
+    (λ i l. same-beq (free t i) (eqb (countAt t i) 0) (w .free-is i l)))))
+
+-- a list after a store, by cases
+pub stored : (P : ℕ → Type 0) (xs : List ℕ) (i v k : ℕ) → i < length xs → (k ≡ i → P v) → ((k ≡ i → ⊥) → P (getD xs k 0)) → P (getD (set xs i v) k 0)
+stored P xs i v k h same other =
+    elim (ℕ-discrete k i) [
+      | yes e ↦ rw (e, getD-set-same xs i v 0 h) (same e)
+      | no d ↦ rw (getD-set-other xs i k v 0 d) (other d)
+    ]
+
+module _ (c : ℕ) (t : Counted) (w : WellCounted c t) where
+  abbrev m : IntervalStoreManager
+  m = t .manager
+
+  pub capacity-least : 1 ≤ c
+  capacity-least = omega (arith, w .whole, sound m (t .starts) (t .ends) (w .managed) .least)
+
+  pub capacity-most : c ≤ 1024
+  capacity-most = omega (arith, w .whole, sound m (t .starts) (t .ends) (w .managed) .most)
+
+  -- an index in use is not free
+  pub used-not-free : (i : ℕ) → i < c → 0 < countAt t i → free t i ≡ false
+  used-not-free i l u = w .free-is i l ∙ ne-eqb (countAt t i) 0 (λ e. omega arith)
+
+  -- an index with count 0 leaves an interval on the stack
+  pub unused-stacked : (i : ℕ) → i < c → countAt t i ≡ 0 → 0 < m .last_in_use
+  unused-stacked i l z =
+      elim (decLt 0 (m .last_in_use)) [
+        | yes h ↦ h
+        | no g ↦
+            let n : m .last_in_use ≡ 0 = omega arith in
+            let e : true ≡ false =
+            sym (w .free-is i l ∙ eq-eqb (countAt t i) 0 z) ∙ (rw n (empty-stack (t .starts) (t .ends) i)) in
+            absurd (let q : _≡_ {A = ℕ} 0 1 = cc in omega arith)
+      ]
+
+  -- the index that get gives is below the capacity, and its count is 0
+  module _ (h : 0 < m .last_in_use) where
+    pub next-within : nextIndex t < c
+    next-within = rw (sym (w .whole)) (next-below (m .capacity) (m .last_in_use) (t .starts) (t .ends) (sound m (t .starts) (t .ends) (w .managed)) h)
+
+    pub next-unused : countAt t (nextIndex t) ≡ 0
+    next-unused =
+        eqb-true (countAt t (nextIndex t)) 0
+        (sym (w .free-is (nextIndex t) next-within) ∙ get-was-free m (t .starts) (t .ends) (w .managed) h)
+
+    pub take-keeps : WellCounted c (indexTaken t)
+    unfolding indexTaken
+    take-keeps =
+        record {
+          managed = get-keeps m (t .starts) (t .ends) (w .managed) h;
+          whole = took (m .capacity) (m .last_in_use) (t .starts) (t .ends) (sound m (t .starts) (t .ends) (w .managed)) h .capacity ∙ w .whole;
+          lent = rw (length-set (t .counts) (nextIndex t) 1) (w .lent);
+          free-is = λ k l.
+              get-free m (t .starts) (t .ends) (w .managed) h k (rw (w .whole) l)
+              ∙ stored (λ x. (free t k && not (eqb k (nextIndex t))) ≡ eqb x 0) (t .counts) (nextIndex t) 1 k (omega (arith, next-within, w .lent))
+              (λ e. rw (eq-eqb k (nextIndex t) e) (and-false (free t k)))
+              (λ d. rw (ne-eqb k (nextIndex t) d) (and-true (free t k) ∙ w .free-is k l));
+        }
+
+  module _ (i : ℕ) (l : i < c) (u : 0 < countAt t i) where
+    pub raise-keeps : WellCounted c (raised t i)
+    unfolding raised
+    raise-keeps =
+        record {
+          managed = w .managed;
+          whole = w .whole;
+          lent = rw (length-set (t .counts) i (countAt t i + 1)) (w .lent);
+          free-is = λ k j.
+              stored (λ x. free t k ≡ eqb x 0) (t .counts) i (countAt t i + 1) k (omega (arith, w .lent))
+              (λ e. rw e (used-not-free i l u ∙ sym (ne-eqb (countAt t i + 1) 0 (λ z. omega arith))))
+              (λ d. w .free-is k j);
+        }
+
+    -- with one count less, and still above 0
+    kept-used : (countAt t i ≡ 1 → ⊥) → WellCounted c (counted m (set (t .counts) i (countAt t i - 1)) (t .starts) (t .ends))
+    kept-used d =
+        record {
+          managed = w .managed;
+          whole = w .whole;
+          lent = rw (length-set (t .counts) i (countAt t i - 1)) (w .lent);
+          free-is = λ k j.
+              stored (λ x. free t k ≡ eqb x 0) (t .counts) i (countAt t i - 1) k (omega (arith, w .lent))
+              (λ e. rw e (used-not-free i l u ∙ sym (ne-eqb (countAt t i - 1) 0 (λ z. d (omega arith)))))
+              (λ f. w .free-is k j);
+        }
+
+    abbrev o : Outcome
+    o = released m (t .starts) (t .ends) i
+
+    within : i < m .capacity
+    within = rw (w .whole) l
+
+    now-free : countAt t i ≡ 1 → WellCounted c (counted (o .manager) (set (t .counts) i (countAt t i - 1)) (o .starts) (o .ends))
+    now-free e =
+        let f = used-not-free i l u in
+        let z : countAt t i - 1 ≡ 0 = omega arith in
+        record {
+          managed = release-keeps m (t .starts) (t .ends) i (w .managed) within f;
+          whole =
+              gave (m .capacity) (m .last_in_use) (t .starts) (t .ends) i (sound m (t .starts) (t .ends) (w .managed)) within
+              (not-free-held (m .last_in_use) (t .starts) (t .ends) i f) .capacity
+              ∙ w .whole;
+          lent = rw (length-set (t .counts) i (countAt t i - 1)) (w .lent);
+          free-is = λ k j.
+              release-free m (t .starts) (t .ends) i (w .managed) within f k
+              ∙ stored (λ x. (free t k || eqb k i) ≡ eqb x 0) (t .counts) i (countAt t i - 1) k (omega (arith, w .lent))
+              (λ q. rw (eq-eqb k i q, z) (or-true (free t k)))
+              (λ d. rw (ne-eqb k i d) (or-false (free t k) ∙ w .free-is k j));
+        }
+
+    pub lower-keeps : WellCounted c (lowered t i)
+    unfolding lowered
+    lower-keeps =
+        elim (ℕ-discrete (countAt t i) 1) [
+          | yes e ↦ rw (eq-eqb (countAt t i) 1 e) (now-free e)
+          | no d ↦ rw (ne-eqb (countAt t i) 1 d) (kept-used d)
+        ]
+
+-- what becomes of the counts
+pub lowered-counts : (t : Counted) (i : ℕ) → lowered t i .counts ≡ set (t .counts) i (countAt t i - 1)
+unfolding lowered
+lowered-counts t i =
+    elim (ℕ-discrete (countAt t i) 1) [
+      | yes e ↦ rw (eq-eqb (countAt t i) 1 e)
+      | no d ↦ rw (ne-eqb (countAt t i) 1 d)
+    ]

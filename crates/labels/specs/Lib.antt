@@ -1,0 +1,12 @@
+pub mod Classes
+pub mod Counted
+pub mod CountedLaws
+pub mod Labels
+pub mod Sound
+pub mod SlotLaws
+pub mod CountLaws
+pub mod TakeSlotLaws
+pub mod TakeLaws
+pub mod Opening
+pub mod Decisions
+pub mod Readings
