@@ -28,6 +28,9 @@ const ON_THE_DOMAIN: [&str; 17] = [
     "push over an entry once in use",
 ];
 
+/// What random lists have to meet besides.
+const AT_THE_LIMITS: [&str; 2] = ["calls at capacity 1", "calls at capacity 1,024"];
+
 /// What calls beyond the Rust's domain have to meet.
 const BEYOND: [&str; 29] = [
     "calls",
@@ -169,7 +172,10 @@ pub fn run() -> Result<(), String> {
     );
     in_use::every_short_list(&mut short)?;
     short.close()?;
-    let mut random = Coverage::new("manager, random lists at capacities 1 to 1,024", &ON_THE_DOMAIN);
+    let mut random = Coverage::new(
+        "manager, random lists at capacities 1 to 1,024",
+        &[&ON_THE_DOMAIN[..], &AT_THE_LIMITS].concat(),
+    );
     in_use::random_lists(&mut random)?;
     random.close()
 }

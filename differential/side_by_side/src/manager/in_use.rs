@@ -242,6 +242,11 @@ fn random_list(random: &mut Random, coverage: &mut Coverage) -> Result<(), Strin
         }
         let call = random_call(&pair, mood, last, random);
         pair.step(call, coverage)?;
+        match pair.rust.get_capacity() {
+            1 => coverage.meet("calls at capacity 1"),
+            1024 => coverage.meet("calls at capacity 1,024"),
+            _ => {}
+        }
         if let Call::Release(i) = call {
             last = i;
         }
