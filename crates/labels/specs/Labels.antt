@@ -32,10 +32,13 @@ labelCountAt l i = countAt (l .labelTable) i
 abbrev pub slotCountAt : Labels → ℕ → ℕ
 slotCountAt l s = countAt (l .attributeTable) s
 
+-- slot s is live and holds the class
+unfoldable pub holdsClass : List ℕ → List ℕ → ℕ → ℕ → Bool
+holdsClass attributes counts class s = ltb 0 (getD counts s 0) && eqb (getD attributes s 0) class
+
 -- the slot of a class 'if live': the first live slot that holds it, or the capacity where none does
 unfoldable pub classSlot : ℕ → List ℕ → List ℕ → ℕ → ℕ
-classSlot capacity attributes counts class =
-    firstBelow capacity (λ s. ltb 0 (getD counts s 0) && eqb (getD attributes s 0) class)
+classSlot capacity attributes counts class = firstBelow capacity (holdsClass attributes counts class)
 
 -- a slot taken, with the classes and the table after it
 pub record SlotTaken : Type 0 where

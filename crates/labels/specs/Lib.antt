@@ -10,3 +10,5 @@ pub mod TakeLaws
 pub mod Opening
 pub mod Decisions
 pub mod Readings
+pub mod ReadingLaws
+pub mod Forms
