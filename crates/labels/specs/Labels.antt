@@ -58,21 +58,26 @@ pub record LabelTaken : Type 0 where
   pub label : ℕ
   pub after : Labels
 
--- 'A kept add takes an attribute slot .., a label index, .. each with one count more'
-unfoldable pub labelTaken : List ℕ → ℕ → Labels → ℕ → LabelTaken
-labelTaken classes capacity l code =
-    let i = nextIndex (l .labelTable) in
-    let a = slotTaken capacity (l .attributes) (l .attributeTable) (classOf classes code) in
+-- label i gets the code and the slot
+abbrev pub labelled : Labels → ℕ → ℕ → SlotTaken → Counted → LabelTaken
+labelled l code i a labelTable =
     record {
       label = i;
       after = record {
         labels = set (l .labels) i code;
         labelAttributes = set (l .labelAttributes) i (a .slot);
-        labelTable = indexTaken (l .labelTable);
+        labelTable = labelTable;
         attributes = a .attributes;
-        attributeTable = a .table;
-      };
+        attributeTable = a .table
+      }
     }
+
+-- 'A kept add takes an attribute slot .., a label index, .. each with one count more'
+unfoldable pub labelTaken : List ℕ → ℕ → Labels → ℕ → LabelTaken
+labelTaken classes capacity l code =
+    labelled l code (nextIndex (l .labelTable))
+    (slotTaken capacity (l .attributes) (l .attributeTable) (classOf classes code))
+    (indexTaken (l .labelTable))
 
 -- the label half with other counts
 abbrev pub withTables : Labels → Counted → Counted → Labels

@@ -4,15 +4,18 @@ use native.Mathlib.Omega.{arith}
 use native.Mathlib.Decide.{decLt, ℕ-discrete}
 use mathlib.Core.List.{List}
 use mathlib.Core.Bool.{Bool, true, false, cond, _&&_, and-false}
-use mathlib.Core.Path.{_≡_, refl, sym, _∙_}
+use mathlib.Core.Path.{_≡_, refl, sym, _∙_, ap₂}
 use lib.ListN.{length, getD, set, length-set}
 use lib.Seq.{getD-set-same, getD-set-other}
 use lib.Dec.{ltb, eqb}
 use borrow.Author.Tests.{eq-eqb, ne-eqb, eqb-true, lt-ltb, le-ltb, ltb-true}
 use Rattle.terms.specs.Below.{one, both}
 use Rattle.terms.specs.Search.{First, first, first-is}
-use Rattle.labels.specs.Counted.{Counted, countAt, nextIndex, indexTaken, raised}
-use Rattle.labels.specs.CountedLaws.{WellCounted, stored, raise-keeps, take-keeps, next-within, next-unused}
+use Rattle.interval_store_manager.specs.declared.IntervalStoreManager.{IntervalStoreManager}
+use Rattle.interval_store_manager.specs.Answers.{outcome, given}
+use Rattle.interval_store_manager.specs.Calls.{taken}
+use Rattle.labels.specs.Counted.{Counted, counted, countAt, nextIndex, indexTaken, raised}
+use Rattle.labels.specs.CountedLaws.{WellCounted, stored, raise-keeps, take-keeps, next-within, next-unused, index-given, index-taken}
 use Rattle.labels.specs.Labels.{holdsClass, classSlot, SlotTaken, slotTaken}
 use Rattle.labels.specs.Sound.{Distinct}
 
@@ -48,6 +51,19 @@ module _ (c : ℕ) (held counts : List ℕ) (class : ℕ) where
   class-none f =
       sym (first-is c (holdsClass held counts class) c
       (record { within = omega arith; passes = λ m. absurd (omega arith); none-before = f }))
+
+-- the two forms of taking a slot
+module _ (c : ℕ) (held : List ℕ) (t : Counted) (class live : ℕ) (q : live ≡ classSlot c held (t .counts) class) where
+  pub taken-live : live < c → record { slot = live; attributes = held; table = counted (t .manager) (set (t .counts) live (countAt t live + 1)) (t .starts) (t .ends) } ≡ slotTaken c held t class
+  unfolding slotTaken raised
+  taken-live h = rw (sym q, lt-ltb live c h)
+
+  pub taken-new : (a : ℕ) (r : IntervalStoreManager) (ss es : List ℕ) → c ≤ live → outcome (given a) r ss es ≡ taken (t .manager) (t .starts) (t .ends) → record { slot = a; attributes = set held a class; table = counted r (set (t .counts) a 1) ss es } ≡ slotTaken c held t class
+  unfolding slotTaken
+  taken-new a r ss es h e =
+      rw (sym q, le-ltb live c h)
+      (let i = index-given t a r ss es e in
+      ap₂ (λ (n : ℕ) (x : Counted). record { slot = n; attributes = set held n class; table = x }) i (index-taken t a r ss es e))
 
 module _ (c : ℕ) (held : List ℕ) (t : Counted) (class : ℕ) (w : WellCounted c t) (g : c ≤ length held) (d : Distinct c held (t .counts)) where
   abbrev r : ℕ

@@ -2,7 +2,7 @@
 use Prim.Native.Nat.{ℕ, _≤_, _<_, _-_}
 use native.Mathlib.Omega.{arith}
 use borrow.Author.Needs.{needs, scaled-fits}
-use borrow.Author.Count.{below-none, below-more}
+use borrow.Author.Count.{below-more}
 use mathlib.Core.Bool.{false}
 use mathlib.Core.Logic.{⊎-elim}
 use mathlib.Core.Path.{_≡_, refl}
@@ -19,7 +19,7 @@ abbrev μ-loop : tie.MeasureT-loop
 μ-loop capacity attributes attribute-count class i₀ i = capacity - i
 
 loop-holds : tie.Need-loop-holds Inv-loop μ-loop
-loop-holds c = (omega arith, below-none)
+loop-holds c = (omega arith, λ k l. absurd (omega arith))
 
 mul-if1 : tie.Need-mul-if1 Inv-loop μ-loop
 mul-if1 c = scaled-fits _ _ _ (omega arith) (c .before .before .good .1 .1 .0 .1)
@@ -42,8 +42,8 @@ loop-less c = omega arith
 loop-again : tie.Need-loop-again Inv-loop μ-loop
 loop-again c = (
   omega arith,
-  below-more (c .before .before .before .loop .i) (c .before .before .before .loop .inv .1)
-  (⊎-elim (λ w. ?) (λ w. ?) (c .if1 .came)),
+  below-more (λ k. holdsClass (c .before .before .before .before .args .attributes .now) (c .before .before .before .before .args .attribute-count .now) (c .before .before .before .before .args .class) k ≡ false) (c .before .before .before .loop .i) (c .before .before .before .loop .inv .1)
+  (⊎-elim (λ w. other-class (c .before .before .before .before .args .attributes .now) (c .before .before .before .before .args .attribute-count .now) (c .before .before .before .before .args .class) (c .before .before .before .loop .i) (w .2 .left)) (λ w. not-live (c .before .before .before .before .args .attributes .now) (c .before .before .before .before .args .attribute-count .now) (c .before .before .before .before .args .class) (c .before .before .before .loop .i) (w .left)) (c .if1 .came)),
 )
 
 returns-2 : tie.Need-returns-2 Inv-loop μ-loop

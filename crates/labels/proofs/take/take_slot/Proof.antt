@@ -1,74 +1,59 @@
-use borrow.Author.Needs.{needs}
+-- The two returns are the two forms of taking a slot.
+use native.Mathlib.Omega.{arith}
+use borrow.Author.Needs.{needs, scaled-fits}
+use Rattle.labels.specs.Counted.{counted}
+use Rattle.labels.specs.CountedLaws.{next-within, index-given}
+use Rattle.labels.specs.TakeSlotLaws.{taken-live, taken-new}
 use Rattle.labels.proofs.take.take_slot.Statement.{statement}
 use Rattle.labels.proofs.take.take_slot.Tie as tie
-use Rattle.labels.proofs.take.take_slot.Reads as reads
-use Rattle.labels.proofs.take.take_slot.Lts as lts
-use Rattle.interval_store_manager.proofs.IntervalStoreManager.get_unchecked.Reads as get-unchecked-reads
-use Rattle.labels.proofs.take.class_slot.Reads as class-slot-reads
 
--- src/take.rt:44:9
 class-slot-requires : tie.Need-class-slot-requires
 class-slot-requires c κs = search needs
 
--- src/take.rt:46:9
 mul-attribute-count : tie.Need-mul-attribute-count
 mul-attribute-count c = search needs
 
--- src/take.rt:46:9
 slice-read-attribute-count : tie.Need-slice-read-attribute-count
 slice-read-attribute-count c = search needs
 
--- src/take.rt:46:9
 add-attribute-count : tie.Need-add-attribute-count
-add-attribute-count c = ?
+add-attribute-count c = omega (arith, c .before .before .before .before .before .before .before .before .before .pre .most (c .before .before .class-slot .result) (c .before .if1 .taken))
 
--- src/take.rt:46:9
 slice-write-attribute-count : tie.Need-slice-write-attribute-count
 slice-write-attribute-count c = search needs
 
--- src/take.rt:47:9
 same-length : tie.Need-same-length
 same-length c = search needs
 
--- src/take.rt:47:9
 same-length-2 : tie.Need-same-length-2
 same-length-2 c = search needs
 
--- src/take.rt:47:9
 returns : tie.Need-returns
-returns c = ?
+returns c = taken-live (c .before .before .before .before .before .before .before .before .before .args .capacity) (c .before .before .before .before .before .before .before .before .before .args .attributes .now) (counted (c .before .before .before .before .before .before .before .before .before .args .manager) (c .before .before .before .before .before .before .before .before .before .args .attribute-count .now) (c .before .before .before .before .before .before .before .before .before .args .attribute-starts .now) (c .before .before .before .before .before .before .before .before .before .args .attribute-ends .now)) (c .before .before .before .before .before .before .before .before .before .args .class) (c .before .before .class-slot .result) (c .before .before .class-slot .ensures) (c .before .if1 .taken)
 
--- src/take.rt:49:9
 get-unchecked-requires : tie.Need-get-unchecked-requires
 get-unchecked-requires c κs = search needs
 
--- src/take.rt:51:5
 slice-write-attributes : tie.Need-slice-write-attributes
-slice-write-attributes c = ?
+slice-write-attributes c = omega (arith, index-given (counted (c .before .before .before .before .before .before .before .before .before .before .before .before .args .manager) (c .before .before .before .before .before .before .before .before .before .before .before .before .args .attribute-count .now) (c .before .before .before .before .before .before .before .before .before .before .before .before .args .attribute-starts .now) (c .before .before .before .before .before .before .before .before .before .before .before .before .args .attribute-ends .now)) (c .before .before .get-unchecked .result .given .index) _ _ _ (c .before .before .get-unchecked .ensures), next-within (c .before .before .before .before .before .before .before .before .before .before .before .before .args .capacity) (counted (c .before .before .before .before .before .before .before .before .before .before .before .before .args .manager) (c .before .before .before .before .before .before .before .before .before .before .before .before .args .attribute-count .now) (c .before .before .before .before .before .before .before .before .before .before .before .before .args .attribute-starts .now) (c .before .before .before .before .before .before .before .before .before .before .before .before .args .attribute-ends .now)) (c .before .before .before .before .before .before .before .before .before .before .before .before .pre .well) (c .before .before .before .before .before .before .before .before .before .before .before .before .pre .some-free), c .before .before .before .before .before .before .before .before .before .before .before .before .pre .lent)
 
--- src/take.rt:52:5
 mul-attribute-count-2 : tie.Need-mul-attribute-count-2
-mul-attribute-count-2 c = ?
+mul-attribute-count-2 c = scaled-fits _ _ _ (omega (arith, index-given (counted (c .before .before .before .before .before .before .before .before .before .before .before .before .args .manager) (c .before .before .before .before .before .before .before .before .before .before .before .before .args .attribute-count .now) (c .before .before .before .before .before .before .before .before .before .before .before .before .args .attribute-starts .now) (c .before .before .before .before .before .before .before .before .before .before .before .before .args .attribute-ends .now)) (c .before .before .get-unchecked .result .given .index) _ _ _ (c .before .before .get-unchecked .ensures), next-within (c .before .before .before .before .before .before .before .before .before .before .before .before .args .capacity) (counted (c .before .before .before .before .before .before .before .before .before .before .before .before .args .manager) (c .before .before .before .before .before .before .before .before .before .before .before .before .args .attribute-count .now) (c .before .before .before .before .before .before .before .before .before .before .before .before .args .attribute-starts .now) (c .before .before .before .before .before .before .before .before .before .before .before .before .args .attribute-ends .now)) (c .before .before .before .before .before .before .before .before .before .before .before .before .pre .well) (c .before .before .before .before .before .before .before .before .before .before .before .before .pre .some-free), c .before .before .before .before .before .before .before .before .before .before .before .before .pre .well .lent)) (c .before .before .before .before .before .before .before .before .before .before .before .before .good .1 .1 .1 .0 .1)
 
--- src/take.rt:52:5
 slice-write-attribute-count-2 : tie.Need-slice-write-attribute-count-2
-slice-write-attribute-count-2 c = ?
+slice-write-attribute-count-2 c = omega (arith, index-given (counted (c .before .before .before .before .before .before .before .before .before .before .before .before .args .manager) (c .before .before .before .before .before .before .before .before .before .before .before .before .args .attribute-count .now) (c .before .before .before .before .before .before .before .before .before .before .before .before .args .attribute-starts .now) (c .before .before .before .before .before .before .before .before .before .before .before .before .args .attribute-ends .now)) (c .before .before .get-unchecked .result .given .index) _ _ _ (c .before .before .get-unchecked .ensures), next-within (c .before .before .before .before .before .before .before .before .before .before .before .before .args .capacity) (counted (c .before .before .before .before .before .before .before .before .before .before .before .before .args .manager) (c .before .before .before .before .before .before .before .before .before .before .before .before .args .attribute-count .now) (c .before .before .before .before .before .before .before .before .before .before .before .before .args .attribute-starts .now) (c .before .before .before .before .before .before .before .before .before .before .before .before .args .attribute-ends .now)) (c .before .before .before .before .before .before .before .before .before .before .before .before .pre .well) (c .before .before .before .before .before .before .before .before .before .before .before .before .pre .some-free), c .before .before .before .before .before .before .before .before .before .before .before .before .pre .well .lent)
 
--- src/take.rt:40:1
 same-length-3 : tie.Need-same-length-3
 same-length-3 c = search needs
 
--- src/take.rt:40:1
 same-length-4 : tie.Need-same-length-4
 same-length-4 c = search needs
 
--- src/take.rt:40:1
 same-length-5 : tie.Need-same-length-5
 same-length-5 c = search needs
 
--- src/take.rt:40:1
 returns-2 : tie.Need-returns-2
-returns-2 c = ?
+returns-2 c = taken-new (c .before .before .before .before .before .before .before .before .before .before .before .before .before .args .capacity) (c .before .before .before .before .before .before .before .before .before .before .before .before .before .args .attributes .now) (counted (c .before .before .before .before .before .before .before .before .before .before .before .before .before .args .manager) (c .before .before .before .before .before .before .before .before .before .before .before .before .before .args .attribute-count .now) (c .before .before .before .before .before .before .before .before .before .before .before .before .before .args .attribute-starts .now) (c .before .before .before .before .before .before .before .before .before .before .before .before .before .args .attribute-ends .now)) (c .before .before .before .before .before .before .before .before .before .before .before .before .before .args .class) (c .before .before .before .before .before .before .class-slot .result) (c .before .before .before .before .before .before .class-slot .ensures) _ _ _ _ (c .before .before .before .before .before .if1 .left) (c .before .before .before .get-unchecked .ensures)
 
 pub take-slot-spec : {M : Type 1} → statement M
 take-slot-spec =
