@@ -103,9 +103,10 @@ unfoldable pub slotSum : ℕ → List ℕ → List ℕ → ℕ → ℕ
 slotSum capacity slots counts s = sumBelow capacity (λ i. cond (eqb (getD slots i 0) s) (getD counts i 0) 0)
 
 -- of a live label: its code is at most 23 and its slot holds the code's class
-unfoldable pub labelStands : List ℕ → ℕ → Labels → ℕ → Bool
-labelStands classes capacity l i =
-    leb (codeAt l i) 23 && (ltb (slotAt l i) capacity && eqb (classAt l (slotAt l i)) (classOf classes (codeAt l i)))
+unfoldable pub labelStands : List ℕ → ℕ → List ℕ → List ℕ → List ℕ → ℕ → Bool
+labelStands classes capacity labels slots attributes i =
+    leb (getD labels i 0) 23
+    && (ltb (getD slots i 0) capacity && eqb (getD attributes (getD slots i 0) 0) (classOf classes (getD labels i 0)))
 
 -- two live slots, of which one is above the other, hold different classes
 unfoldable pub differ : List ℕ → List ℕ → ℕ → ℕ → Bool
@@ -124,7 +125,7 @@ labelsWell classes capacity l =
     && (leb capacity (length (l .labelAttributes))
     && (leb capacity (length (l .attributes))
     && (everyBelow capacity (λ i. leb (labelCountAt l i) 65535)
-    && (everyBelow capacity (λ i. cond (ltb 0 (labelCountAt l i)) (labelStands classes capacity l i) true)
+    && (everyBelow capacity (λ i. cond (ltb 0 (labelCountAt l i)) (labelStands classes capacity (l .labels) (l .labelAttributes) (l .attributes) i) true)
     && (everyBelow capacity (λ s. everyBelow s (λ t. differ (l .attributes) (l .attributeTable .counts) s t))
     && everyBelow capacity (λ s. eqb (slotCountAt l s) (slotSum capacity (l .labelAttributes) (l .labelTable .counts) s)))))))))
 

@@ -12,3 +12,4 @@ pub mod Decisions
 pub mod Readings
 pub mod ReadingLaws
 pub mod Forms
+pub mod Checks
