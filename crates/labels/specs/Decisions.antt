@@ -4,7 +4,7 @@ use mathlib.Core.List.{List}
 use mathlib.Core.Bool.{Bool, cond, _&&_}
 use lib.ListN.{getD}
 use lib.Dec.{ltb, leb, eqb}
-use Rattle.terms.specs.Below.{everyBelow}
+use Rattle.interval_store_manager.specs.declared.IntervalStoreManager.{IntervalStoreManager}
 use Rattle.interval_store_manager.specs.Calls.{Decided, go, refuse}
 
 -- 'None means 2^64 − 1.'
@@ -19,10 +19,9 @@ inUse storeLabels capacity counts i = storeLabels && (ltb i capacity && ltb 0 (g
 unfoldable pub codeDecided : Bool → ℕ → Decided
 codeDecided storeLabels code = cond (storeLabels && ltb 23 code) (refuse 4) go
 
--- 'labels on, every label index in use': 8
-unfoldable pub roomDecided : Bool → ℕ → List ℕ → Decided
-roomDecided storeLabels capacity counts =
-    cond (storeLabels && everyBelow capacity (λ i. ltb 0 (getD counts i 0))) (refuse 8) go
+-- 'labels on, every label index in use': 8. No index is free, and by `all-in-use` that is every index in use
+unfoldable pub roomDecided : Bool → IntervalStoreManager → Decided
+roomDecided storeLabels m = cond (storeLabels && eqb (m .last_in_use) 0) (refuse 8) go
 
 -- 'label index not in use': 6; 'inc of a point or label count at 65,535': 7. 'With labels off, inc ignores the label index'
 unfoldable pub incDecided : Bool → ℕ → List ℕ → ℕ → Decided
