@@ -3,7 +3,6 @@ ghost use mathlib.Core.Bool.{true};
 ghost use mathlib.Core.Path.{_≡_};
 ghost use Rattle.store_definitions.specs.Bounds.{boundsHold};
 ghost use Rattle.store_definitions.specs.WellFormed.{freeStartWell};
-
 use store_definitions::Store;
 
 pub fn bounds_hold(dimensions: usize, shingle_size: usize, capacity: usize) -> bool
@@ -40,10 +39,11 @@ pub fn free_start_well(s: Store) -> bool
     if free % base != 0 {
         return false;
     }
-    if free != 0 {
-        if free < s.dimensions {
-            return false;
-        }
+    if free == 0 {
+        return free <= s.store_length;
+    }
+    if free < s.dimensions {
+        return false;
     }
     free <= s.store_length
 }

@@ -5,5 +5,7 @@ ghost use Prim.Native.Nat.{_≤_};
 ghost use lib.ListN.{length};
 
 mod bounds;
+mod points;
 
-pub use bounds::{bounds_hold, free_start_well};
+pub use bounds::bounds_hold;
+pub use bounds::free_start_well;

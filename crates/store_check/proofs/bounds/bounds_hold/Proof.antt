@@ -1,44 +1,46 @@
+-- Each return follows from the tests that led to it; the product is at most 1,024 × 64.
 use borrow.Author.Needs.{needs}
+use Prim.Native.Nat.{_%_}
+use native.Mathlib.Nat.{mul-le-mul-left, mul-le-mul-right}
+use native.Mathlib.Omega.{arith}
+use borrow.Author.Tests.{le-leb, lt-leb, eq-eqb, ne-eqb}
+use Rattle.store_definitions.specs.Bounds.{boundsHold}
 use Rattle.store_check.proofs.bounds.bounds_hold.Statement.{statement}
 use Rattle.store_check.proofs.bounds.bounds_hold.Tie as tie
-use Rattle.store_check.proofs.bounds.bounds_hold.Reads as reads
-use Rattle.store_check.proofs.bounds.bounds_hold.Lts as lts
 
--- src/bounds.rt:13:9
 returns : tie.Need-returns
-returns c = ?
+unfolding boundsHold
+returns c = rw (lt-leb 1 (c .before .args .dimensions) (c .if1 .taken))
 
--- src/bounds.rt:16:9
 returns-2 : tie.Need-returns-2
-returns-2 c = ?
+unfolding boundsHold
+returns-2 c = rw (le-leb 1 (c .before .before .args .dimensions) (c .before .if1 .left), lt-leb (c .before .before .args .dimensions) 64 (c .if2 .taken))
 
--- src/bounds.rt:19:9
 returns-3 : tie.Need-returns-3
-returns-3 c = ?
+unfolding boundsHold
+returns-3 c = rw (le-leb 1 (c .before .before .before .args .dimensions) (c .before .before .if1 .left), le-leb (c .before .before .before .args .dimensions) 64 (c .before .if2 .left), lt-leb 1 (c .before .before .before .args .shingle-size) (c .if3 .taken))
 
--- src/bounds.rt:21:8
 rem-if4 : tie.Need-rem-if4
 rem-if4 c = search needs
 
--- src/bounds.rt:22:9
 returns-4 : tie.Need-returns-4
-returns-4 c = ?
+unfolding boundsHold
+returns-4 c = rw (le-leb 1 (c .before .before .before .before .args .dimensions) (c .before .before .before .if1 .left), le-leb (c .before .before .before .before .args .dimensions) 64 (c .before .before .if2 .left), le-leb 1 (c .before .before .before .before .args .shingle-size) (c .before .if3 .left), ne-eqb (c .before .before .before .before .args .dimensions % c .before .before .before .before .args .shingle-size) 0 (c .if4 .taken))
 
--- src/bounds.rt:25:9
 returns-5 : tie.Need-returns-5
-returns-5 c = ?
+unfolding boundsHold
+returns-5 c = rw (le-leb 1 (c .before .before .before .before .before .args .dimensions) (c .before .before .before .before .if1 .left), le-leb (c .before .before .before .before .before .args .dimensions) 64 (c .before .before .before .if2 .left), le-leb 1 (c .before .before .before .before .before .args .shingle-size) (c .before .before .if3 .left), eq-eqb (c .before .before .before .before .before .args .dimensions % c .before .before .before .before .before .args .shingle-size) 0 (c .before .if4 .left), lt-leb 1 (c .before .before .before .before .before .args .capacity) (c .if5 .taken))
 
--- src/bounds.rt:28:9
 returns-6 : tie.Need-returns-6
-returns-6 c = ?
+unfolding boundsHold
+returns-6 c = rw (le-leb 1 (c .before .before .before .before .before .before .args .dimensions) (c .before .before .before .before .before .if1 .left), le-leb (c .before .before .before .before .before .before .args .dimensions) 64 (c .before .before .before .before .if2 .left), le-leb 1 (c .before .before .before .before .before .before .args .shingle-size) (c .before .before .before .if3 .left), eq-eqb (c .before .before .before .before .before .before .args .dimensions % c .before .before .before .before .before .before .args .shingle-size) 0 (c .before .before .if4 .left), le-leb 1 (c .before .before .before .before .before .before .args .capacity) (c .before .if5 .left), lt-leb (c .before .before .before .before .before .before .args .capacity) 1024 (c .if6 .taken))
 
--- src/bounds.rt:30:5
 mul-result : tie.Need-mul-result
-mul-result c = ?
+mul-result c = record { fits = omega (arith, mul-le-mul-right (c .before .before .before .before .before .before .args .dimensions) (c .if6 .left), mul-le-mul-left 1024 (c .before .before .before .before .if2 .left)) }
 
--- src/bounds.rt:9:1
 returns-7 : tie.Need-returns-7
-returns-7 c = ?
+unfolding boundsHold
+returns-7 c = rw (le-leb 1 (c .before .before .before .before .before .before .args .dimensions) (c .before .before .before .before .before .if1 .left), le-leb (c .before .before .before .before .before .before .args .dimensions) 64 (c .before .before .before .before .if2 .left), le-leb 1 (c .before .before .before .before .before .before .args .shingle-size) (c .before .before .before .if3 .left), eq-eqb (c .before .before .before .before .before .before .args .dimensions % c .before .before .before .before .before .before .args .shingle-size) 0 (c .before .before .if4 .left), le-leb 1 (c .before .before .before .before .before .before .args .capacity) (c .before .if5 .left), le-leb (c .before .before .before .before .before .before .args .capacity) 1024 (c .if6 .left))
 
 pub bounds-hold-spec : {M : Type 1} → statement M
 bounds-hold-spec =

@@ -1,0 +1,2 @@
+mod EntryLaws
+mod PlaceLaws

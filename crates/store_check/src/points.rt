@@ -1,0 +1,88 @@
+// The points' half: the stack of free indices, the counts and the places.
+ghost use mathlib.Core.Bool.{true};
+ghost use mathlib.Core.Path.{_≡_};
+ghost use Prim.Native.Nat.{ℕ, _≤_, _<_};
+ghost use lib.ListN.{length, getD};
+ghost use Rattle.interval_store_manager.specs.Marks.{Unmarked};
+ghost use Rattle.store_definitions.specs.WellFormed.{placesDistinct};
+ghost use Rattle.store_check.specs.Entries.{entryWell, entriesWell, countsLive, placeFresh, placeMarked};
+
+// What a pass over the entries finds: whether all are well, and how many are live.
+pub struct EntriesChecked {
+    pub ok: bool,
+    pub live: usize,
+}
+
+fn entry_well(base: usize, dims: usize, free: usize, mark: u8, count: u16, place: u16) -> bool
+    requires { ⌜ (base ≤ 64) × (dims ≤ 64) ⌝ }
+    ensures { λ r. ⌜ r ≡ entryWell base dims free mark count place ⌝ }
+{
+    if count == 0 {
+        if mark == 1 {
+            return place == 65535;
+        }
+        return false;
+    }
+    if mark == 1 {
+        return false;
+    }
+    if place == 65535 {
+        return false;
+    }
+    (place as usize) * base + dims <= free
+}
+
+// No early exit: every entry is read.
+fn entries_well(
+    n: usize,
+    base: usize,
+    dims: usize,
+    free: usize,
+    marks: &[u8],
+    reference_count: &[u16],
+    location: &[u16],
+) -> EntriesChecked
+    requires { ⌜ (base ≤ 64) × ((dims ≤ 64) × ((n ≤ length (now marks)) × ((n ≤ length (now «reference_count»)) × (n ≤ length (now location))))) ⌝ }
+    ensures { λ r. ⌜ (r .ok ≡ entriesWell n base dims free (now (marks .entry)) (now («reference_count» .entry)) (now (location .entry))) × (r .live ≡ countsLive n (now («reference_count» .entry))) ⌝ }
+{
+    let mut ok = true;
+    let mut live: usize = 0;
+    let mut i = 0;
+    while i < n {
+        let count = reference_count[i];
+        let well = entry_well(base, dims, free, marks[i], count, location[i]);
+        ok = ok & well;
+        live += (count != 0) as usize;
+        i += 1;
+    }
+    EntriesChecked { ok, live }
+}
+
+// Marks a place that is not empty; false where it is marked already.
+fn mark_place(place: u16, marks: &mut [u8]) -> bool
+    requires { ⌜ ((place ≡ 65535 → ⊥) → place < length (now marks)) ⌝ }
+    ensures { λ r. ⌜ (r ≡ placeFresh place (now (marks .entry))) × (now (marks .exit) ≡ placeMarked place (now (marks .entry))) ⌝ }
+{
+    if place == 65535 {
+        return true;
+    }
+    let at = place as usize;
+    let fresh = marks[at] != 1;
+    marks[at] = 1;
+    fresh
+}
+
+// Whether the live places of the first n entries are distinct: each is marked, and none may be marked already.
+fn mark_places(n: usize, location: &[u16], marks: &mut [u8]) -> bool
+    requires { ⌜ (n ≤ length (now location)) × (Unmarked (now marks) × ((i : ℕ) → i < n → (getD (now location) i 0 ≡ 65535 → ⊥) → getD (now location) i 0 < length (now marks))) ⌝ }
+    ensures { λ r. ⌜ r ≡ placesDistinct n (now (location .entry)) ⌝ }
+{
+    let mut ok = true;
+    let mut i = 0;
+    while i < n {
+        let fresh = mark_place(location[i], marks);
+        ok = ok & fresh;
+        i += 1;
+    }
+    ok
+}
