@@ -1,5 +1,7 @@
 -- What the check asks of each entry of the points' table, and of the places met so far.
-use Prim.Native.Nat.{ℕ, zero, suc, _+_, _*_}
+use Prim.Native.Nat.{ℕ, zero, suc, _+_, _*_, _≤_, _<_}
+use native.Mathlib.Omega.{arith}
+use mathlib.Core.Path.{_≡_}
 use mathlib.Core.List.{List}
 use mathlib.Core.Bool.{Bool, false, cond, _&&_, _||_, not, Bool·beq}
 use lib.ListN.{getD, set}
@@ -31,3 +33,10 @@ placeFresh place marks = eqb place 65535 || not (eqb (getD marks place 0) 1)
 
 unfoldable pub placeMarked : ℕ → List ℕ → List ℕ
 placeMarked place marks = cond (eqb place 65535) marks (set marks place 1)
+
+-- the live places of the first n entries are below a limit
+abbrev pub PlacesBelow : ℕ → ℕ → List ℕ → Type 0
+PlacesBelow limit n location = (i : ℕ) → i < n → (getD location i 0 ≡ 65535 → ⊥) → getD location i 0 < limit
+
+pub below-larger : (a b n : ℕ) (location : List ℕ) → a ≤ b → PlacesBelow a n location → PlacesBelow b n location
+below-larger a b n location h p i l d = omega (arith, p i l d)

@@ -5,7 +5,7 @@ ghost use Prim.Native.Nat.{ℕ, _≤_, _<_};
 ghost use lib.ListN.{length, getD};
 ghost use Rattle.interval_store_manager.specs.Marks.{Unmarked};
 ghost use Rattle.store_definitions.specs.WellFormed.{placesDistinct};
-ghost use Rattle.store_check.specs.Entries.{entryWell, entriesWell, countsLive, placeFresh, placeMarked};
+ghost use Rattle.store_check.specs.Entries.{entryWell, entriesWell, countsLive, placeFresh, placeMarked, PlacesBelow};
 
 // What a pass over the entries finds: whether all are well, and how many are live.
 pub struct EntriesChecked {
@@ -74,7 +74,7 @@ fn mark_place(place: u16, marks: &mut [u8]) -> bool
 
 // Whether the live places of the first n entries are distinct: each is marked, and none may be marked already.
 fn mark_places(n: usize, location: &[u16], marks: &mut [u8]) -> bool
-    requires { ⌜ (n ≤ length (now location)) × (Unmarked (now marks) × ((i : ℕ) → i < n → (getD (now location) i 0 ≡ 65535 → ⊥) → getD (now location) i 0 < length (now marks))) ⌝ }
+    requires { ⌜ (n ≤ length (now location)) × (Unmarked (now marks) × PlacesBelow (length (now marks)) n (now location)) ⌝ }
     ensures { λ r. ⌜ r ≡ placesDistinct n (now (location .entry)) ⌝ }
 {
     let mut ok = true;
@@ -85,4 +85,53 @@ fn mark_places(n: usize, location: &[u16], marks: &mut [u8]) -> bool
         i += 1;
     }
     ok
+}
+
+fn distinct_256(n: usize, location: &[u16]) -> bool
+    requires { ⌜ (n ≤ length (now location)) × PlacesBelow 256 n (now location) ⌝ }
+    ensures { λ r. ⌜ r ≡ placesDistinct n (now (location .entry)) ⌝ }
+{
+    let mut marks = [0u8; 256];
+    mark_places(n, location, &mut marks[..])
+}
+
+fn distinct_1024(n: usize, location: &[u16]) -> bool
+    requires { ⌜ (n ≤ length (now location)) × PlacesBelow 1024 n (now location) ⌝ }
+    ensures { λ r. ⌜ r ≡ placesDistinct n (now (location .entry)) ⌝ }
+{
+    let mut marks = [0u8; 1024];
+    mark_places(n, location, &mut marks[..])
+}
+
+fn distinct_4096(n: usize, location: &[u16]) -> bool
+    requires { ⌜ (n ≤ length (now location)) × PlacesBelow 4096 n (now location) ⌝ }
+    ensures { λ r. ⌜ r ≡ placesDistinct n (now (location .entry)) ⌝ }
+{
+    let mut marks = [0u8; 4096];
+    mark_places(n, location, &mut marks[..])
+}
+
+fn distinct_16384(n: usize, location: &[u16]) -> bool
+    requires { ⌜ (n ≤ length (now location)) × PlacesBelow 16384 n (now location) ⌝ }
+    ensures { λ r. ⌜ r ≡ placesDistinct n (now (location .entry)) ⌝ }
+{
+    let mut marks = [0u8; 16384];
+    mark_places(n, location, &mut marks[..])
+}
+
+// Whether the live places are distinct, with a table of marks no larger than the places ask for.
+fn places_distinct(n: usize, places: usize, location: &[u16]) -> bool
+    requires { ⌜ (places ≤ 16384) × ((n ≤ length (now location)) × PlacesBelow places n (now location)) ⌝ }
+    ensures { λ r. ⌜ r ≡ placesDistinct n (now (location .entry)) ⌝ }
+{
+    if places <= 256 {
+        return distinct_256(n, location);
+    }
+    if places <= 1024 {
+        return distinct_1024(n, location);
+    }
+    if places <= 4096 {
+        return distinct_4096(n, location);
+    }
+    distinct_16384(n, location)
 }
