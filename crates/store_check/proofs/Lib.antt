@@ -1,2 +1,3 @@
 mod EntryLaws
 mod PlaceLaws
+mod TableLaws

@@ -6,6 +6,7 @@ ghost use lib.ListN.{length};
 
 mod bounds;
 mod points;
+mod table;
 
 pub use bounds::bounds_hold;
 pub use bounds::free_start_well;

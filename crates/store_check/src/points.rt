@@ -33,7 +33,7 @@ fn entry_well(base: usize, dims: usize, free: usize, mark: u8, count: u16, place
 }
 
 // No early exit: every entry is read.
-fn entries_well(
+pub fn entries_well(
     n: usize,
     base: usize,
     dims: usize,
@@ -120,7 +120,7 @@ fn distinct_16384(n: usize, location: &[u16]) -> bool
 }
 
 // Whether the live places are distinct, with a table of marks no larger than the places ask for.
-fn places_distinct(n: usize, places: usize, location: &[u16]) -> bool
+pub fn places_distinct(n: usize, places: usize, location: &[u16]) -> bool
     requires { ⌜ (places ≤ 16384) × ((n ≤ length (now location)) × PlacesBelow places n (now location)) ⌝ }
     ensures { λ r. ⌜ r ≡ placesDistinct n (now (location .entry)) ⌝ }
 {
