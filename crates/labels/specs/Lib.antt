@@ -13,3 +13,4 @@ pub mod Readings
 pub mod ReadingLaws
 pub mod Forms
 pub mod Checks
+pub mod CheckLaws

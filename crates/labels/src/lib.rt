@@ -1,6 +1,7 @@
 // The label half of document 01's store: reason classes, label indices and attribute slots, over lent slices, two interval
 // managers and the capacity. The store's calls sequence it with the points. Decisions, readings and the check take any
 // slices; taking, inc and dec are for callers that have checked.
+mod check;
 mod classes;
 mod count;
 mod decide;
