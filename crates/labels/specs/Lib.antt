@@ -14,3 +14,4 @@ pub mod ReadingLaws
 pub mod Forms
 pub mod Checks
 pub mod CheckLaws
+pub mod CheckedLaws

@@ -12,6 +12,7 @@ mod take;
 use interval_store_manager::IntervalStoreManager;
 use terms::{LabelIndex, Refusal};
 
+pub use check::labels_well_formed;
 pub use classes::{class_of, reason_classes};
 pub use count::{dec_label, inc_label};
 pub use decide::{code_decision, dec_decision, inc_decision, label_in_use, room_decision};
