@@ -15,3 +15,5 @@ pub mod Forms
 pub mod Checks
 pub mod CheckLaws
 pub mod CheckedLaws
+pub mod AnswerLaws
+pub mod DecisionLaws
