@@ -17,3 +17,4 @@ pub mod CheckLaws
 pub mod CheckedLaws
 pub mod AnswerLaws
 pub mod DecisionLaws
+pub mod Examples
