@@ -75,8 +75,8 @@ summed-most n slots counts sums h g f e s l =
     share-fits : (i : ℕ) → share slots counts s i ≤ 65535
     share-fits i =
         elim (ℕ-discrete (getD slots i 0) s) [
-          yes q ↦ rw (eq-eqb (getD slots i 0) s q) (omega (arith, f i))
-        | no d ↦ rw (ne-eqb (getD slots i 0) s d) (omega arith)
+          | yes q ↦ rw (eq-eqb (getD slots i 0) s q) (omega (arith, f i))
+          | no d ↦ rw (ne-eqb (getD slots i 0) s d) (omega arith)
         ]
 
 -- a live slot below n holds class k
@@ -94,8 +94,8 @@ seen-none held counts seen z k = z k
 one-more : (n r : ℕ) (b : Bool) → r ≤ n → ltb (cond (ltb r n) r (cond b n (suc n))) (suc n) ≡ (b || ltb r n)
 one-more n r b h =
     elim (decLt r n) [
-      yes l ↦ rw (lt-ltb r n l) (lt-ltb r (suc n) (omega arith) ∙ sym (or-true b))
-    | no g ↦ rw (le-ltb r n (omega arith)) (last b)
+      | yes l ↦ rw (lt-ltb r n l) (lt-ltb r (suc n) (omega arith) ∙ sym (or-true b))
+      | no g ↦ rw (le-ltb r n (omega arith)) (last b)
     ]
   where
     last : (x : Bool) → ltb (cond x n (suc n)) (suc n) ≡ (x || false)
@@ -130,13 +130,13 @@ differs n held counts seen e f =
     let p = holdsClass held counts (getD held n 0) in
     let none : one (ltb (firstBelow n p) n) ≡ 0 = sym (e (getD held n 0)) ∙ f u in
     elim (decLt (firstBelow n p) n) [
-      yes m ↦ let z = rw (lt-ltb (firstBelow n p) n m) at none in omega arith
-    | no g ↦
-      let no = first n p .none-before t (omega arith) in
-      let yes : holdsClass held counts (getD held n 0) t ≡ true = rw (lt-ltb 0 (getD counts t 0) v, eq-eqb (getD held t 0) (getD held n 0) (sym q)) in
-      let w : true ≡ false = sym yes ∙ no in
-      let z : _≡_ {A = ℕ} 0 1 = cc in
-      omega arith
+      | yes m ↦ let z = rw (lt-ltb (firstBelow n p) n m) at none in omega arith
+      | no g ↦
+          let no = first n p .none-before t (omega arith) in
+          let yes : holdsClass held counts (getD held n 0) t ≡ true = rw (lt-ltb 0 (getD counts t 0) v, eq-eqb (getD held t 0) (getD held n 0) (sym q)) in
+          let w : true ≡ false = sym yes ∙ no in
+          let z : _≡_ {A = ℕ} 0 1 = cc in
+          omega arith
     ]))
 
 -- a class seen: it does not
@@ -146,11 +146,11 @@ clashes n held counts seen e u d =
     let p = holdsClass held counts (getD held n 0) in
     let r = firstBelow n p in
     elim (decLt r n) [
-      yes m ↦
-      let q = both (ltb 0 (getD counts r 0)) (eqb (getD held r 0) (getD held n 0)) (first n p .passes m) in
-      every-stops n (λ t. differ held counts n t) r m
-      (differ-no held counts n r u (ltb-true 0 (getD counts r 0) (q .0)) (sym (eqb-true (getD held r 0) (getD held n 0) (q .1))))
-    | no g ↦ absurd (d (e (getD held n 0) ∙ rw (le-ltb r n (omega arith))))
+      | yes m ↦
+          let q = both (ltb 0 (getD counts r 0)) (eqb (getD held r 0) (getD held n 0)) (first n p .passes m) in
+          every-stops n (λ t. differ held counts n t) r m
+          (differ-no held counts n r u (ltb-true 0 (getD counts r 0) (q .0)) (sym (eqb-true (getD held r 0) (getD held n 0) (q .1))))
+      | no g ↦ absurd (d (e (getD held n 0) ∙ rw (le-ltb r n (omega arith))))
     ]
 
 -- a slot fits where it passes and differs
@@ -210,7 +210,7 @@ module _ (seen : List ℕ) (class count : ℕ) where
       record {
         first = λ e u. absurd (omega arith);
         again = λ e. absurd (let q : _≡_ {A = ℕ} 0 1 = cc in omega arith);
-        seen = λ e k. rw (le-ltb 0 count (omega arith))
+        seen = λ e k. rw (le-ltb 0 count (omega arith));
       }
 
   pub seen-first : (count ≡ 0 → ⊥) → class < length seen → getD seen class 0 ≡ 0 → ClassSeen seen (set seen class 1) class count true
@@ -219,9 +219,9 @@ module _ (seen : List ℕ) (class count : ℕ) where
         first = λ e u. z;
         again = λ e. absurd (let q : _≡_ {A = ℕ} 0 1 = cc in omega arith);
         seen = λ e k.
-          rw (lt-ltb 0 count (positive count d))
-          (stored (λ x. x ≡ cond (eqb class k) 1 (getD seen k 0)) seen class 1 k h (λ q. rw (eq-eqb class k (sym q)))
-          (λ q. rw (ne-eqb class k (λ p. q (sym p)))))
+            rw (lt-ltb 0 count (positive count d))
+            (stored (λ x. x ≡ cond (eqb class k) 1 (getD seen k 0)) seen class 1 k h (λ q. rw (eq-eqb class k (sym q)))
+            (λ q. rw (ne-eqb class k (λ p. q (sym p)))));
       }
 
   pub seen-again : (count ≡ 0 → ⊥) → (getD seen class 0 ≡ 0 → ⊥) → ClassSeen seen seen class count false
@@ -229,7 +229,7 @@ module _ (seen : List ℕ) (class count : ℕ) where
       record {
         first = λ e u. absurd (let q : _≡_ {A = ℕ} 0 1 = cc in omega arith);
         again = λ e. (positive count d, z);
-        seen = λ e k. absurd (let q : _≡_ {A = ℕ} 0 1 = cc in omega arith)
+        seen = λ e k. absurd (let q : _≡_ {A = ℕ} 0 1 = cc in omega arith);
       }
 
 -- the ways out of the pass over the labels
@@ -241,7 +241,7 @@ module _ (classes : List ℕ) (c : ℕ) (labels slots counts attributes marks su
   swept-no l e =
       record {
         is = sym (every-stops c passes i l e);
-        summed = λ t. absurd (let q : _≡_ {A = ℕ} 0 1 = cc in omega arith)
+        summed = λ t. absurd (let q : _≡_ {A = ℕ} 0 1 = cc in omega arith);
       }
 
   pub swept-all : i ≡ c → everyBelow i passes ≡ true → Summed i slots counts sums → LabelsSwept classes c labels slots counts attributes marks sums true

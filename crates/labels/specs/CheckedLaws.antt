@@ -73,7 +73,7 @@ module _ (classes : List ℕ) (c : ℕ) (l : Labels) where
         slots-lent = leb-true c (length (l .labelAttributes)) (t2 .0);
         counts-lent = leb-true c (length (l .labelTable .counts)) (t3 .0);
         classes-lent = leb-true c (length (l .attributes)) (t4 .0);
-        marks-lent = omega (arith, most e q, g)
+        marks-lent = omega (arith, most e q, g);
       }
 
   pub slots-lent : (marks sums : List ℕ) → labelsManaged ≡ true → l .labelTable .manager .capacity ≡ c → lent ≡ true → length marks ≡ 1024 → length sums ≡ 1024 → SlotsLent c (l .attributes) (l .attributeTable .counts) marks sums
@@ -87,7 +87,7 @@ module _ (classes : List ℕ) (c : ℕ) (l : Labels) where
         classes-lent = leb-true c (length (l .attributes)) (t4 .0);
         counts-lent = leb-true c (length (l .attributeTable .counts)) (t4 .1);
         marks-lent = omega (arith, most e q, g);
-        sums-lent = omega (arith, most e q, h)
+        sums-lent = omega (arith, most e q, h);
       }
 
   -- a label that does not pass

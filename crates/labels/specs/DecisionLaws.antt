@@ -28,16 +28,16 @@ pub code-go : (code : ℕ) → codeDecided true code ≡ go → code ≤ 23
 unfolding codeDecided
 code-go code e =
     elim (decLt 23 code) [
-      yes l ↦ no-go (rw (lt-ltb 23 code l) at e)
-    | no g ↦ omega arith
+      | yes l ↦ no-go (rw (lt-ltb 23 code l) at e)
+      | no g ↦ omega arith
     ]
 
 pub room-go : (m : IntervalStoreManager) → roomDecided true m ≡ go → 0 < m .last_in_use
 unfolding roomDecided
 room-go m e =
     elim (decLt 0 (m .last_in_use)) [
-      yes l ↦ l
-    | no g ↦ no-go (rw (eq-eqb (m .last_in_use) 0 (omega arith)) at e)
+      | yes l ↦ l
+      | no g ↦ no-go (rw (eq-eqb (m .last_in_use) 0 (omega arith)) at e)
     ]
 
 tested : (a b : Bool) → cond a (cond b (refuse 7) go) (refuse 6) ≡ go → (a ≡ true) × (b ≡ false)
@@ -64,18 +64,18 @@ dec-go c counts i e = in-use c counts i (used (inUse true c counts i) e)
 pub all-in-use : (c : ℕ) (t : Counted) → WellCounted c t → eqb (t .manager .last_in_use) 0 ≡ everyBelow c (λ i. ltb 0 (countAt t i))
 all-in-use c t w =
     elim (decLt 0 (t .manager .last_in_use)) [
-      yes h ↦
-      ne-eqb (t .manager .last_in_use) 0 (λ e. omega arith)
-      ∙ sym (fails (everyBelow c (λ i. ltb 0 (countAt t i)))
-      (λ e.
-      let u = ltb-true 0 (countAt t (nextIndex t)) (every-at c (λ i. ltb 0 (countAt t i)) e (nextIndex t) (next-within c t w h)) in
-      omega (arith, u, next-unused c t w h)))
-    | no g ↦
-      eq-eqb (t .manager .last_in_use) 0 (omega arith)
-      ∙ sym (every-make c (λ i. ltb 0 (countAt t i))
-      (λ i l.
-      elim (decLt 0 (countAt t i)) [
-        yes u ↦ lt-ltb 0 (countAt t i) u
-      | no f ↦ absurd (g (unused-stacked c t w i l (omega arith)))
-      ]))
+      | yes h ↦
+          ne-eqb (t .manager .last_in_use) 0 (λ e. omega arith)
+          ∙ sym (fails (everyBelow c (λ i. ltb 0 (countAt t i)))
+          (λ e.
+          let u = ltb-true 0 (countAt t (nextIndex t)) (every-at c (λ i. ltb 0 (countAt t i)) e (nextIndex t) (next-within c t w h)) in
+          omega (arith, u, next-unused c t w h)))
+      | no g ↦
+          eq-eqb (t .manager .last_in_use) 0 (omega arith)
+          ∙ sym (every-make c (λ i. ltb 0 (countAt t i))
+          (λ i l.
+          elim (decLt 0 (countAt t i)) [
+            | yes u ↦ lt-ltb 0 (countAt t i) u
+            | no f ↦ absurd (g (unused-stacked c t w i l (omega arith)))
+          ]))
     ]

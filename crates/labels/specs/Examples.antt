@@ -29,7 +29,7 @@ fresh =
       labelAttributes = some;
       labelTable = counted (manager 0 0) some some some;
       attributes = some;
-      attributeTable = counted (manager 0 0) some some some
+      attributeTable = counted (manager 0 0) some some some;
     })
 
 add : Labels → ℕ → LabelTaken

@@ -10,12 +10,19 @@ ghost use Rattle.labels.specs.Labels.{labelStands, labelsWell, labelsOk}
 ghost use Rattle.labels.specs.Checks.{labelPasses, slotPasses, slotFits, tablesLent};
 ghost use Rattle.labels.specs.CheckLaws.{LabelsLent, LabelsSwept, SlotsLent, ClassSeen};
 ghost use Rattle.labels.specs.Forms.{entered};
-
-use crate::classes::{class_of, LARGEST_CODE};
 use crate::LabelManagers;
+use crate::classes::LARGEST_CODE;
+use crate::classes::class_of;
 use interval_store_manager::mark_free;
 
-fn tables_lent(capacity: usize, labels: &[u8], label_attributes: &[u16], label_count: &[u16], attributes: &[u8], attribute_count: &[u32]) -> bool
+fn tables_lent(
+    capacity: usize,
+    labels: &[u8],
+    label_attributes: &[u16],
+    label_count: &[u16],
+    attributes: &[u8],
+    attribute_count: &[u32],
+) -> bool
     ensures { λ r. ⌜ r ≡ tablesLent capacity (now (labels .entry)) (now («label_attributes» .entry)) (now («label_count» .entry)) (now (attributes .entry)) (now («attribute_count» .entry)) ⌝ }
 {
     if labels.len() < capacity {
@@ -34,7 +41,14 @@ fn tables_lent(capacity: usize, labels: &[u8], label_attributes: &[u16], label_c
 }
 
 // Of a live label: whether its code is one of the table's, and its slot holds the code's class.
-fn label_stands(classes: &[u8; 24], capacity: usize, labels: &[u8], label_attributes: &[u16], attributes: &[u8], i: usize) -> bool
+fn label_stands(
+    classes: &[u8; 24],
+    capacity: usize,
+    labels: &[u8],
+    label_attributes: &[u16],
+    attributes: &[u8],
+    i: usize,
+) -> bool
     requires { ⌜ (i < length (now labels)) × ((i < length (now «label_attributes»)) × (capacity ≤ length (now attributes))) ⌝ }
     ensures { λ r. ⌜ r ≡ labelStands (now (classes .entry)) capacity (now (labels .entry)) (now («label_attributes» .entry)) (now (attributes .entry)) i ⌝ }
 {
@@ -49,7 +63,16 @@ fn label_stands(classes: &[u8; 24], capacity: usize, labels: &[u8], label_attrib
     false
 }
 
-fn label_passes(classes: &[u8; 24], capacity: usize, labels: &[u8], label_attributes: &[u16], label_count: &[u16], attributes: &[u8], marks: &[u8], i: usize) -> bool
+fn label_passes(
+    classes: &[u8; 24],
+    capacity: usize,
+    labels: &[u8],
+    label_attributes: &[u16],
+    label_count: &[u16],
+    attributes: &[u8],
+    marks: &[u8],
+    i: usize,
+) -> bool
     requires { ⌜ LabelsLent capacity (now labels) (now «label_attributes») (now «label_count») (now attributes) (now marks) × (i < capacity) ⌝ }
     ensures { λ r. ⌜ r ≡ labelPasses (now (classes .entry)) capacity (now (labels .entry)) (now («label_attributes» .entry)) (now («label_count» .entry)) (now (attributes .entry)) (now (marks .entry)) i ⌝ }
 {
@@ -75,13 +98,31 @@ fn add_share(sums: &mut [u32], slot: usize, count: u16)
 }
 
 // Passes over the labels and leaves the sums of the slots' counts.
-fn labels_pass(classes: &[u8; 24], capacity: usize, labels: &[u8], label_attributes: &[u16], label_count: &[u16], attributes: &[u8], marks: &[u8], sums: &mut [u32]) -> bool
+fn labels_pass(
+    classes: &[u8; 24],
+    capacity: usize,
+    labels: &[u8],
+    label_attributes: &[u16],
+    label_count: &[u16],
+    attributes: &[u8],
+    marks: &[u8],
+    sums: &mut [u32],
+) -> bool
     requires { ⌜ LabelsLent capacity (now labels) (now «label_attributes») (now «label_count») (now attributes) (now marks) × ((length (now sums) ≡ 1024) × ((s : ℕ) → getD (now sums) s 0 ≡ 0)) ⌝ }
     ensures { λ r. ⌜ LabelsSwept (now (classes .entry)) capacity (now (labels .entry)) (now («label_attributes» .entry)) (now («label_count» .entry)) (now (attributes .entry)) (now (marks .entry)) (now (sums .exit)) r ⌝ }
 {
     let mut i = 0;
     while i < capacity {
-        if label_passes(classes, capacity, labels, label_attributes, label_count, attributes, marks, i) {
+        if label_passes(
+            classes,
+            capacity,
+            labels,
+            label_attributes,
+            label_count,
+            attributes,
+            marks,
+            i,
+        ) {
             add_share(sums, label_attributes[i] as usize, label_count[i]);
             i += 1;
         } else {
@@ -123,7 +164,13 @@ fn first_of_class(seen: &mut [u8], class: u8, count: u32) -> bool
 }
 
 // Passes over the slots.
-fn slots_pass(capacity: usize, attributes: &[u8], attribute_count: &[u32], marks: &[u8], sums: &[u32]) -> bool
+fn slots_pass(
+    capacity: usize,
+    attributes: &[u8],
+    attribute_count: &[u32],
+    marks: &[u8],
+    sums: &[u32],
+) -> bool
     requires { ⌜ SlotsLent capacity (now attributes) (now «attribute_count») (now marks) (now sums) ⌝ }
     ensures { λ r. ⌜ r ≡ everyBelow capacity (λ s. slotFits (now (attributes .entry)) (now («attribute_count» .entry)) (now (marks .entry)) (now (sums .entry)) s) ⌝ }
 {
@@ -168,15 +215,36 @@ fn label_half_well_formed(
     if attribute_manager.capacity != capacity {
         return false;
     }
-    if tables_lent(capacity, labels, label_attributes, label_count, attributes, attribute_count) {
+    if tables_lent(
+        capacity,
+        labels,
+        label_attributes,
+        label_count,
+        attributes,
+        attribute_count,
+    ) {
         let mut label_marks = [0u8; 1024];
         let label_check = mark_free(label_manager, label_starts, label_ends, &mut label_marks);
         let mut slot_marks = [0u8; 1024];
-        let slot_check = mark_free(attribute_manager, attribute_starts, attribute_ends, &mut slot_marks);
+        let slot_check = mark_free(
+            attribute_manager,
+            attribute_starts,
+            attribute_ends,
+            &mut slot_marks,
+        );
         if label_check.ok {
             if slot_check.ok {
                 let mut sums = [0u32; 1024];
-                if labels_pass(classes, capacity, labels, label_attributes, label_count, attributes, &label_marks, &mut sums) {
+                if labels_pass(
+                    classes,
+                    capacity,
+                    labels,
+                    label_attributes,
+                    label_count,
+                    attributes,
+                    &label_marks,
+                    &mut sums,
+                ) {
                     return slots_pass(capacity, attributes, attribute_count, &slot_marks, &sums);
                 }
             }
@@ -204,7 +272,20 @@ pub fn labels_well_formed(
     ensures { λ r. ⌜ r ≡ labelsOk «store_labels» (now (classes .entry)) capacity (entered managers labels «label_attributes» «label_count» «label_starts» «label_ends» attributes «attribute_count» «attribute_starts» «attribute_ends») ⌝ }
 {
     if store_labels {
-        return label_half_well_formed(classes, capacity, managers, labels, label_attributes, label_count, label_starts, label_ends, attributes, attribute_count, attribute_starts, attribute_ends);
+        return label_half_well_formed(
+            classes,
+            capacity,
+            managers,
+            labels,
+            label_attributes,
+            label_count,
+            label_starts,
+            label_ends,
+            attributes,
+            attribute_count,
+            attribute_starts,
+            attribute_ends,
+        );
     }
     true
 }

@@ -57,14 +57,14 @@ loop-again c = (
   omega (arith, c .before .before .before .before .before .before .before .before .loop-test .taken),
   (
     every-more (c .before .before .before .before .before .before .before .before .before .loop .s) (λ k. slotFits (c .before .before .before .before .before .before .before .before .before .before .before .before .before .before .args .attributes .now) (c .before .before .before .before .before .before .before .before .before .before .before .before .before .before .args .attribute-count .now) (c .before .before .before .before .before .before .before .before .before .before .before .before .before .before .args .marks .now) (c .before .before .before .before .before .before .before .before .before .before .before .before .before .before .args .sums .now) k) (c .before .before .before .before .before .before .before .before .before .loop .inv .1 .0)
-    (fits-yes (c .before .before .before .before .before .before .before .before .before .before .before .before .before .before .args .attributes .now) (c .before .before .before .before .before .before .before .before .before .before .before .before .before .before .args .attribute-count .now) (c .before .before .before .before .before .before .before .before .before .before .before .before .before .before .args .marks .now) (c .before .before .before .before .before .before .before .before .before .before .before .before .before .before .args .sums .now) (c .before .before .before .before .before .before .before .before .before .loop .s) (sym (c .before .before .before .before .before .before .before .slot-passes .ensures) ∙ c .before .before .before .before .before .before .if1 .taken)
-    (differs (c .before .before .before .before .before .before .before .before .before .loop .s) (c .before .before .before .before .before .before .before .before .before .before .before .before .before .before .args .attributes .now) (c .before .before .before .before .before .before .before .before .before .before .before .before .before .before .args .attribute-count .now) (c .before .before .before .before .before .before .before .before .before .loop .seen) (c .before .before .before .before .before .before .before .before .before .loop .inv .1 .1 .1) (c .before .before .first-of-class .ensures .first (c .if2 .taken)))),
+        (fits-yes (c .before .before .before .before .before .before .before .before .before .before .before .before .before .before .args .attributes .now) (c .before .before .before .before .before .before .before .before .before .before .before .before .before .before .args .attribute-count .now) (c .before .before .before .before .before .before .before .before .before .before .before .before .before .before .args .marks .now) (c .before .before .before .before .before .before .before .before .before .before .before .before .before .before .args .sums .now) (c .before .before .before .before .before .before .before .before .before .loop .s) (sym (c .before .before .before .before .before .before .before .slot-passes .ensures) ∙ c .before .before .before .before .before .before .if1 .taken)
+        (differs (c .before .before .before .before .before .before .before .before .before .loop .s) (c .before .before .before .before .before .before .before .before .before .before .before .before .before .before .args .attributes .now) (c .before .before .before .before .before .before .before .before .before .before .before .before .before .before .args .attribute-count .now) (c .before .before .before .before .before .before .before .before .before .loop .seen) (c .before .before .before .before .before .before .before .before .before .loop .inv .1 .1 .1) (c .before .before .first-of-class .ensures .first (c .if2 .taken)))),
     (c .before .before .first-of-class .kept .0 ∙ c .before .before .before .before .before .before .before .before .before .loop .inv .1 .1 .0, seen-more (c .before .before .before .before .before .before .before .before .before .loop .s) (c .before .before .before .before .before .before .before .before .before .before .before .before .before .before .args .attributes .now) (c .before .before .before .before .before .before .before .before .before .before .before .before .before .before .args .attribute-count .now) (c .before .before .before .before .before .before .before .before .before .loop .seen) (c .before .before .first-of-class .last .0) (c .before .before .before .before .before .before .before .before .before .loop .inv .1 .1 .1) (c .before .before .first-of-class .ensures .seen (c .if2 .taken))),
   ),
 )
 
 returns : tie.Need-returns Inv-loop μ-loop
-returns c = 
+returns c =
     let again = c .before .before .first-of-class .ensures .again (c .if2 .left) in
     sym (every-stops (c .before .before .before .before .before .before .before .before .before .before .before .before .before .before .args .capacity) (λ k. slotFits (c .before .before .before .before .before .before .before .before .before .before .before .before .before .before .args .attributes .now) (c .before .before .before .before .before .before .before .before .before .before .before .before .before .before .args .attribute-count .now) (c .before .before .before .before .before .before .before .before .before .before .before .before .before .before .args .marks .now) (c .before .before .before .before .before .before .before .before .before .before .before .before .before .before .args .sums .now) k) (c .before .before .before .before .before .before .before .before .before .loop .s) (c .before .before .before .before .before .before .before .before .loop-test .taken)
     (fits-clash (c .before .before .before .before .before .before .before .before .before .before .before .before .before .before .args .attributes .now) (c .before .before .before .before .before .before .before .before .before .before .before .before .before .before .args .attribute-count .now) (c .before .before .before .before .before .before .before .before .before .before .before .before .before .before .args .marks .now) (c .before .before .before .before .before .before .before .before .before .before .before .before .before .before .args .sums .now) (c .before .before .before .before .before .before .before .before .before .loop .s) (sym (c .before .before .before .before .before .before .before .slot-passes .ensures) ∙ c .before .before .before .before .before .before .if1 .taken)
