@@ -6,3 +6,4 @@ pub mod RowsLaws
 pub mod Lengths
 pub mod PointsLaws
 pub mod CountingLaws
+pub mod TableLaws
