@@ -8,3 +8,4 @@ pub mod PointsLaws
 pub mod CountingLaws
 pub mod TableLaws
 pub mod LaidLaws
+pub mod AddingLaws
