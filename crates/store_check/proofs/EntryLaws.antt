@@ -9,7 +9,6 @@ use mathlib.Core.Path.{_≡_, refl, ap}
 use mir.Val.{boolByte}
 use lib.ListN.{length, getD}
 use lib.Dec.{eqb}
-use borrow.Author.Tests.{eq-eqb, ne-eqb}
 use Rattle.terms.specs.Below.{one, everyBelow, sumBelow, countBelow}
 use Rattle.store_check.specs.Entries.{entryWell, entriesWell, countsLive}
 

@@ -1,8 +1,7 @@
 -- Places marked one after another: which are marked, and that a place marked already stands at an earlier index.
-use Prim.Native.Nat.{ℕ, zero, suc, _+_, _≤_, _<_}
+use Prim.Native.Nat.{ℕ, zero, suc, _+_, _<_}
 use native.Mathlib.Decide.{ℕ-discrete}
 use native.Mathlib.Numerals.{add-one}
-use native.Mathlib.Omega.{arith}
 use mathlib.Core.List.{List}
 use mathlib.Core.Bool.{Bool, true, false, cond, _&&_, _||_, not, or-true, or-false, and-true}
 use mathlib.Core.Path.{_≡_, refl, sym, _∙_, ap}

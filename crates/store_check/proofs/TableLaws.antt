@@ -12,11 +12,11 @@ use Rattle.terms.specs.Below.{one, both, everyBelow, every-at, every-and}
 use Rattle.interval_store_manager.specs.Intervals.{isFree}
 use Rattle.interval_store_manager.specs.Marks.{Marks}
 use Rattle.interval_store_manager.specs.WellFormed as manager
-use Rattle.labels.specs.Counted.{counted, countedWell}
+use Rattle.labels.specs.Counted.{countedWell}
 use Rattle.store_definitions.specs.declared.Store.{Store}
 use Rattle.store_definitions.specs.Parts.{baseOf, tableLength}
 use Rattle.store_definitions.specs.WellFormed.{placesDistinct, placesEnd}
-use Rattle.store_laws.specs.BoundsLaws.{InBounds, in-bounds, base-some, base-divides}
+use Rattle.store_laws.specs.BoundsLaws.{in-bounds, base-some, base-divides}
 use Rattle.store_check.specs.Entries.{entryWell, entriesWell, PlacesBelow}
 use Rattle.store_check.specs.PointsTest.{pointsTest, PointsReady}
 use Rattle.store_check.proofs.EntryLaws.{any-default}

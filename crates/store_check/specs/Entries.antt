@@ -5,7 +5,7 @@ use mathlib.Core.Path.{_≡_}
 use mathlib.Core.List.{List}
 use mathlib.Core.Bool.{Bool, false, cond, _&&_, _||_, not, Bool·beq}
 use lib.ListN.{getD, set}
-use lib.Dec.{leb, ltb, eqb}
+use lib.Dec.{leb, eqb}
 use Rattle.terms.specs.Below.{everyBelow, countBelow}
 
 -- count 0 exactly where the index is marked free and exactly where the place is empty; a place that is not ends by the free start

@@ -85,7 +85,7 @@ module _ {E : Type 0} where
   labels-are-make false c p f = refl
 
   -- what is lent for the labels follows from the label half
-  labels-lent-make : (c : ℕ) (p : PointStore E) → LabelsSound classTable c (labelHalf p) → labelsLent c (p .memory) ≡ true
+  pub labels-lent-make : (c : ℕ) (p : PointStore E) → LabelsSound classTable c (labelHalf p) → labelsLent c (p .memory) ≡ true
   unfolding labelsLent
   labels-lent-make c p l =
       let m = p .memory in

@@ -1,5 +1,5 @@
 -- The invariant: what holds of the entries below i, and how many of them are live.
-use Prim.Native.Nat.{ℕ, _≤_, _-_}
+use Prim.Native.Nat.{_≤_, _-_}
 use native.Mathlib.Omega.{arith}
 use mathlib.Core.Bool.{not}
 use lib.ListN.{getD}
@@ -11,9 +11,6 @@ use Rattle.store_check.specs.Entries.{entriesWell, countsLive}
 use Rattle.store_check.proofs.EntryLaws.{byte-le, entries-more, live-more}
 use Rattle.store_check.proofs.points.entries_well.Statement.{statement}
 use Rattle.store_check.proofs.points.entries_well.Tie as tie
-use Rattle.store_check.proofs.points.entries_well.Reads as reads
-use Rattle.store_check.proofs.points.entries_well.Lts as lts
-use Rattle.store_check.proofs.points.entry_well.Reads as entry-well-reads
 
 abbrev Inv-loop : tie.InvT-loop
 Inv-loop n base dims free marks reference-count location ok₀ live₀ i₀ ok live i = (i ≤ n) × ((ok ≡ entriesWell i base dims free marks reference-count location) × ((live ≡ countsLive i reference-count) × (live ≤ i)))

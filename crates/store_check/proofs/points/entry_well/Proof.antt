@@ -7,8 +7,6 @@ use Rattle.store_check.specs.Entries.{entryWell}
 use Rattle.store_check.proofs.EntryLaws.{empty-or, end-fits}
 use Rattle.store_check.proofs.points.entry_well.Statement.{statement}
 use Rattle.store_check.proofs.points.entry_well.Tie as tie
-use Rattle.store_check.proofs.points.entry_well.Reads as reads
-use Rattle.store_check.proofs.points.entry_well.Lts as lts
 
 returns : tie.Need-returns
 unfolding entryWell

@@ -4,8 +4,6 @@ use borrow.Author.Tests.{eq-eqb, ne-eqb}
 use Rattle.store_check.specs.Entries.{placeFresh, placeMarked}
 use Rattle.store_check.proofs.points.mark_place.Statement.{statement}
 use Rattle.store_check.proofs.points.mark_place.Tie as tie
-use Rattle.store_check.proofs.points.mark_place.Reads as reads
-use Rattle.store_check.proofs.points.mark_place.Lts as lts
 
 returns : tie.Need-returns
 unfolding placeFresh placeMarked

@@ -4,17 +4,14 @@ use native.Mathlib.Omega.{arith}
 use mathlib.Core.List.{List}
 use mathlib.Core.Path.{_≡_, refl, sym, _∙_, ap, subst⁻¹}
 use lib.ListN.{length, getD}
-use borrow.Author.Needs.{needs, scaled-fits}
+use borrow.Author.Needs.{scaled-fits}
 use Rattle.terms.specs.Below.{everyBelow}
 use Rattle.store_definitions.specs.WellFormed.{placesDistinct}
 use Rattle.store_check.specs.Entries.{placeFresh, placeMarked}
 use Rattle.store_check.proofs.EntryLaws.{any-default}
-use Rattle.store_check.proofs.PlaceLaws.{PlacesMarked, none-marked, marks-more, distinct-more, marked-length}
+use Rattle.store_check.proofs.PlaceLaws.{PlacesMarked, none-marked, marks-more, distinct-more}
 use Rattle.store_check.proofs.points.mark_places.Statement.{statement}
 use Rattle.store_check.proofs.points.mark_places.Tie as tie
-use Rattle.store_check.proofs.points.mark_places.Reads as reads
-use Rattle.store_check.proofs.points.mark_places.Lts as lts
-use Rattle.store_check.proofs.points.mark_place.Reads as mark-place-reads
 
 abbrev Inv-loop : tie.InvT-loop
 Inv-loop n location marks₀ ok₀ i₀ marks ok i = (i ≤ n) × ((length marks ≡ length marks₀) × ((ok ≡ placesDistinct i location) × PlacesMarked i location marks))

@@ -12,11 +12,6 @@ use Rattle.store_laws.specs.BoundsLaws.{in-bounds, base-some, base-divides}
 use Rattle.store_check.proofs.TableLaws.{table-is, table-fails, table-below}
 use Rattle.store_check.proofs.table.points_well.Statement.{statement}
 use Rattle.store_check.proofs.table.points_well.Tie as tie
-use Rattle.store_check.proofs.table.points_well.Reads as reads
-use Rattle.store_check.proofs.table.points_well.Lts as lts
-use Rattle.interval_store_manager.proofs.mark_free.Reads as mark-free-reads
-use Rattle.store_check.proofs.points.entries_well.Reads as entries-well-reads
-use Rattle.store_check.proofs.points.places_distinct.Reads as places-distinct-reads
 
 div-base : tie.Need-div-base
 div-base c = (in-bounds (c .before .before .before .before .before .before .args .s .dimensions) (c .before .before .before .before .before .before .args .s .«shingle_size») (c .before .before .before .before .before .before .args .s .capacity) (c .before .before .before .before .before .before .pre .bounds)) .shingle-least
