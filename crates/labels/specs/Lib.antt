@@ -13,3 +13,8 @@ pub mod Readings
 pub mod ReadingLaws
 pub mod Forms
 pub mod Checks
+pub mod CheckLaws
+pub mod CheckedLaws
+pub mod AnswerLaws
+pub mod DecisionLaws
+pub mod Examples
