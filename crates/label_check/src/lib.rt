@@ -6,14 +6,14 @@ ghost use Prim.Native.Nat.{ℕ, _+_, _<_, _≤_, _^_};
 ghost use lib.ListN.{length, getD};
 ghost use lib.Dec.{eqb};
 ghost use Rattle.terms.specs.Below.{everyBelow};
 ghost use Rattle.labels.specs.Labels.{labelStands, labelsWell, labelsOk};
-ghost use Rattle.labels.specs.Checks.{labelPasses, slotPasses, slotFits, tablesLent};
-ghost use Rattle.labels.specs.CheckLaws.{LabelsLent, LabelsSwept, SlotsLent, ClassSeen};
+ghost use Rattle.label_check.specs.Checks.{labelPasses, slotPasses, slotFits, tablesLent};
+ghost use Rattle.label_check.specs.CheckLaws.{LabelsLent, LabelsSwept, SlotsLent, ClassSeen};
 ghost use Rattle.labels.specs.Forms.{entered};
-use crate::LabelManagers;
-use crate::classes::LARGEST_CODE;
-use crate::classes::class_of;
 use interval_store_manager::mark_free;
+use labels::class_of;
+use labels::LabelManagers;
+use labels::LARGEST_CODE;
 
 fn tables_lent(
     capacity: usize,

@@ -1,8 +1,8 @@
 -- Each return follows from the tests that led to it.
 use borrow.Author.Tests.{le-leb, lt-leb}
-use Rattle.labels.specs.Checks.{tablesLent}
-use Rattle.labels.proofs.check.tables_lent.Statement.{statement}
-use Rattle.labels.proofs.check.tables_lent.Tie as tie
+use Rattle.label_check.specs.Checks.{tablesLent}
+use Rattle.label_check.proofs.tables_lent.Statement.{statement}
+use Rattle.label_check.proofs.tables_lent.Tie as tie
 
 returns : tie.Need-returns
 unfolding tablesLent

@@ -10,10 +10,10 @@ use borrow.Author.Tests.{le-leb, leb-true}
 use Rattle.terms.specs.Below.{both, and-make, fails, everyBelow}
 use Rattle.interval_store_manager.specs.WellFormed.{wellFormed}
 use Rattle.interval_store_manager.specs.Sound as manager
 use Rattle.labels.specs.Labels.{Labels, labelCountAt, labelsWell}
 use Rattle.labels.specs.Sound.{Sound, sound}
-use Rattle.labels.specs.Checks.{tablesLent, labelPasses, slotFits, Summed, MarksOf, labels-pass, slots-fit, passed}
-use Rattle.labels.specs.CheckLaws.{LabelsLent, SlotsLent}
+use Rattle.label_check.specs.Checks.{tablesLent, labelPasses, slotFits, Summed, MarksOf, labels-pass, slots-fit, passed}
+use Rattle.label_check.specs.CheckLaws.{LabelsLent, SlotsLent}
 
 -- a test that fails cannot hold
 clash : {b : Bool} → b ≡ true → b ≡ false → ⊥

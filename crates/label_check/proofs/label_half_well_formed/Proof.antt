@@ -3,10 +3,10 @@ use native.Mathlib.Omega.{arith}
 use borrow.Author.Needs.{needs}
 use mathlib.Core.Path.{refl, sym, _∙_}
 use Rattle.interval_store_manager.specs.MarkLaws.{unmarked}
 use Rattle.labels.specs.Forms.{labelHalf}
-use Rattle.labels.specs.CheckedLaws.{label-capacity-other, slot-capacity-other, not-lent, labels-not-managed, slots-not-managed, labels-lent, slots-lent, labels-fail, slots-decide}
-use Rattle.labels.proofs.check.label_half_well_formed.Statement.{statement}
-use Rattle.labels.proofs.check.label_half_well_formed.Tie as tie
+use Rattle.label_check.specs.CheckedLaws.{label-capacity-other, slot-capacity-other, not-lent, labels-not-managed, slots-not-managed, labels-lent, slots-lent, labels-fail, slots-decide}
+use Rattle.label_check.proofs.label_half_well_formed.Statement.{statement}
+use Rattle.label_check.proofs.label_half_well_formed.Tie as tie
 
 returns : tie.Need-returns
 returns c =

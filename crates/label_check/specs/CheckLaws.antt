@@ -13,11 +13,11 @@ use borrow.Author.Tests.{eq-eqb, ne-eqb, lt-ltb, le-ltb, ltb-true, ltb-false, eq
 use Rattle.terms.specs.Below.{one, both, and-make, fails, positive, everyBelow, every-at, every-make, sumBelow}
 use Rattle.terms.specs.Sums.{sum-most}
 use Rattle.terms.specs.Search.{firstBelow, First, first}
 use Rattle.labels.specs.Labels.{holdsClass, slotSum, labelStands, differ}
 use Rattle.labels.specs.CountedLaws.{stored}
 use Rattle.labels.specs.Sound.{differ-no, differ-yes}
 use Rattle.labels.specs.SlotLaws.{share}
-use Rattle.labels.specs.Checks.{labelPasses, slotPasses, slotFits, Summed}
+use Rattle.label_check.specs.Checks.{labelPasses, slotPasses, slotFits, Summed}
 
 -- the slices of the pass over the labels have an entry for each index
 pub record LabelsLent (capacity : ℕ) (labels slots counts attributes marks : List ℕ) : Type 0 where

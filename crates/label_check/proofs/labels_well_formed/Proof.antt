@@ -1,7 +1,7 @@
 -- With labels off nothing is asked.
 use borrow.Author.Needs.{needs}
-use Rattle.labels.proofs.check.labels_well_formed.Statement.{statement}
-use Rattle.labels.proofs.check.labels_well_formed.Tie as tie
+use Rattle.label_check.proofs.labels_well_formed.Statement.{statement}
+use Rattle.label_check.proofs.labels_well_formed.Tie as tie
 
 label-half-well-formed-requires : tie.Need-label-half-well-formed-requires
 label-half-well-formed-requires c κs = search needs

@@ -1,9 +1,9 @@
 -- A slot past the sums is no slot below their length.
 use native.Mathlib.Omega.{arith}
 use borrow.Author.Needs.{needs}
-use Rattle.labels.specs.CheckLaws.{share-added, share-past}
-use Rattle.labels.proofs.check.add_share.Statement.{statement}
-use Rattle.labels.proofs.check.add_share.Tie as tie
+use Rattle.label_check.specs.CheckLaws.{share-added, share-past}
+use Rattle.label_check.proofs.add_share.Statement.{statement}
+use Rattle.label_check.proofs.add_share.Tie as tie
 
 mul-sums : tie.Need-mul-sums
 mul-sums c = search needs

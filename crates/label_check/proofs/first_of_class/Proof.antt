@@ -1,9 +1,9 @@
 -- Each return follows from the tests that led to it.
 use native.Mathlib.Omega.{arith}
 use borrow.Author.Needs.{needs}
-use Rattle.labels.specs.CheckLaws.{seen-dead, seen-first, seen-again}
-use Rattle.labels.proofs.check.first_of_class.Statement.{statement}
-use Rattle.labels.proofs.check.first_of_class.Tie as tie
+use Rattle.label_check.specs.CheckLaws.{seen-dead, seen-first, seen-again}
+use Rattle.label_check.proofs.first_of_class.Statement.{statement}
+use Rattle.label_check.proofs.first_of_class.Tie as tie
 
 returns : tie.Need-returns
 returns c = seen-dead (c .before .args .seen .now) (c .before .args .class) (c .before .args .count) (c .if1 .taken)
