@@ -40,7 +40,7 @@ pub struct TakenLabel {
 
 // What a reading of a label's code or class finds.
 pub enum LabelRead {
-    Is(u8),
+    Is(usize),
     Refused(Refusal),
 }
 
