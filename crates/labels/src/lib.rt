@@ -8,8 +8,8 @@ mod entry;
 mod read;
 mod take;
 
-pub use classes::class_of;
 pub use classes::LARGEST_CODE;
+pub use classes::class_of;
 pub use classes::reason_classes;
 pub use count::dec_label;
 pub use count::inc_label;

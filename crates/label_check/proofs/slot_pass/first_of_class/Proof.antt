@@ -2,8 +2,8 @@
 use native.Mathlib.Omega.{arith}
 use borrow.Author.Needs.{needs}
 use Rattle.label_check.specs.CheckLaws.{seen-dead, seen-first, seen-again}
-use Rattle.label_check.proofs.first_of_class.Statement.{statement}
-use Rattle.label_check.proofs.first_of_class.Tie as tie
+use Rattle.label_check.proofs.slot_pass.first_of_class.Statement.{statement}
+use Rattle.label_check.proofs.slot_pass.first_of_class.Tie as tie
 
 returns : tie.Need-returns
 returns c = seen-dead (c .before .args .seen .now) (c .before .args .class) (c .before .args .count) (c .if1 .taken)

@@ -2,8 +2,8 @@
 use borrow.Author.Needs.{needs}
 use mathlib.Core.Path.{_∙_}
 use Rattle.label_check.specs.CheckLaws.{passes-dead, passes-live, passes-not}
-use Rattle.label_check.proofs.label_passes.Statement.{statement}
-use Rattle.label_check.proofs.label_passes.Tie as tie
+use Rattle.label_check.proofs.label_pass.label_passes.Statement.{statement}
+use Rattle.label_check.proofs.label_pass.label_passes.Tie as tie
 
 mul-count : tie.Need-mul-count
 mul-count c = search needs

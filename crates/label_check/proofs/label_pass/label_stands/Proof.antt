@@ -3,8 +3,8 @@ use borrow.Author.Needs.{needs}
 use native.Mathlib.Omega.{arith}
 use borrow.Author.Tests.{le-leb, lt-leb, lt-ltb, le-ltb}
 use Rattle.labels.specs.Labels.{labelStands}
-use Rattle.label_check.proofs.label_stands.Statement.{statement}
-use Rattle.label_check.proofs.label_stands.Tie as tie
+use Rattle.label_check.proofs.label_pass.label_stands.Statement.{statement}
+use Rattle.label_check.proofs.label_pass.label_stands.Tie as tie
 
 shared-slice-read-code : tie.Need-shared-slice-read-code
 shared-slice-read-code c = search needs

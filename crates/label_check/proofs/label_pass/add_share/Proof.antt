@@ -2,8 +2,8 @@
 use native.Mathlib.Omega.{arith}
 use borrow.Author.Needs.{needs}
 use Rattle.label_check.specs.CheckLaws.{share-added, share-past}
-use Rattle.label_check.proofs.add_share.Statement.{statement}
-use Rattle.label_check.proofs.add_share.Tie as tie
+use Rattle.label_check.proofs.label_pass.add_share.Statement.{statement}
+use Rattle.label_check.proofs.label_pass.add_share.Tie as tie
 
 mul-sums : tie.Need-mul-sums
 mul-sums c = search needs

@@ -1,8 +1,8 @@
 -- Each return follows from the tests that led to it.
 use borrow.Author.Needs.{needs}
 use Rattle.label_check.specs.CheckLaws.{slot-dead, slot-live, slot-unsummed}
-use Rattle.label_check.proofs.slot_passes.Statement.{statement}
-use Rattle.label_check.proofs.slot_passes.Tie as tie
+use Rattle.label_check.proofs.slot_pass.slot_passes.Statement.{statement}
+use Rattle.label_check.proofs.slot_pass.slot_passes.Tie as tie
 
 mul-count : tie.Need-mul-count
 mul-count c = search needs

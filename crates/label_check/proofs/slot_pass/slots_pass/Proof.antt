@@ -9,8 +9,8 @@ use Rattle.terms.specs.Below.{everyBelow}
 use Rattle.interval_store_manager.specs.MarkLaws.{unmarked}
 use Rattle.label_check.specs.Checks.{slotFits}
 use Rattle.label_check.specs.CheckLaws.{Seen, every-more, every-stops, seen-none, seen-more, differs, clashes, fits-yes, fits-not, fits-clash}
-use Rattle.label_check.proofs.slots_pass.Statement.{statement}
-use Rattle.label_check.proofs.slots_pass.Tie as tie
+use Rattle.label_check.proofs.slot_pass.slots_pass.Statement.{statement}
+use Rattle.label_check.proofs.slot_pass.slots_pass.Tie as tie
 
 abbrev Inv-loop : tie.InvT-loop
 Inv-loop capacity attributes attribute-count marks sums seen₀ s₀ seen s =

@@ -8,8 +8,8 @@ use lib.ListN.{length}
 use Rattle.terms.specs.Below.{everyBelow}
 use Rattle.label_check.specs.Checks.{labelPasses, Summed}
 use Rattle.label_check.specs.CheckLaws.{every-more, summed-none, summed-more, summed-most, swept-no, swept-all}
-use Rattle.label_check.proofs.labels_pass.Statement.{statement}
-use Rattle.label_check.proofs.labels_pass.Tie as tie
+use Rattle.label_check.proofs.label_pass.labels_pass.Statement.{statement}
+use Rattle.label_check.proofs.label_pass.labels_pass.Tie as tie
 
 abbrev Inv-loop : tie.InvT-loop
 Inv-loop classes capacity labels label-attributes label-count attributes marks sums₀ i₀ sums i =
