@@ -24,7 +24,7 @@ pub fn label(
     ensures { λ r. ⌜ labelReadMeans r ≡ labelSpec «store_labels» capacity (now (labels .entry)) (now («label_count» .entry)) (index .0) ⌝ }
 {
     if label_in_use(store_labels, capacity, label_count, index) {
-        return LabelRead::Is(entry_u8(labels, index.0));
+        return LabelRead::Is(entry_u8(labels, index.0) as usize);
     }
     LabelRead::Refused(Refusal::LabelNotInUse)
 }
@@ -32,7 +32,7 @@ pub fn label(
 // The slot of a label, and the class that the slot holds.
 struct HeldClass {
     slot: usize,
-    class: u8,
+    class: usize,
 }
 
 fn attribute_at(label_attributes: &[u16], attributes: &[u8], index: LabelIndex) -> HeldClass
@@ -41,7 +41,7 @@ fn attribute_at(label_attributes: &[u16], attributes: &[u8], index: LabelIndex) 
     let slot = entry_u16(label_attributes, index.0) as usize;
     HeldClass {
         slot,
-        class: entry_u8(attributes, slot),
+        class: entry_u8(attributes, slot) as usize,
     }
 }
 
