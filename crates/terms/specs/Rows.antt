@@ -1,7 +1,8 @@
--- Two rows are equal where they are as long as each other and their elements are equal, one by one, by `eq`.
+-- Rows of any element, compared by any equality of two elements.
 use mathlib.Core.Bool.{Bool, true, false, cond}
 use mathlib.Core.List.{List, [], _∷_}
 
+-- the same length, and equal element by element
 unfoldable pub allEqual : {E : Type 0} → (E → E → Bool) → List E → List E → Bool
 allEqual eq [] [] = true
 allEqual eq [] (y ∷ ys) = false

@@ -1,0 +1,28 @@
+-- Only a NaN differs from itself, so any other float's bits are written.
+use mathlib.Core.Path.{_≡_, sym, ap, _∙_, subst}
+use mathlib.Core.Bool.{Bool, not, Bool·not-not}
+use lib.Dec.{T}
+use lib.Ieee.{Float, ne, isNan, toBits}
+use lib.Ieee.Compare.{differs-from-itself}
+use borrow.Author.Needs.{needs}
+use Rattle.float_bits.specs.Words.{wordOf}
+use Rattle.float_bits.specs.Equality.{float-equals-itself}
+use Rattle.float_bits.proofs.word_of_float.Statement.{statement}
+use Rattle.float_bits.proofs.word_of_float.Tie as tie
+
+differs : (x : Float) → ne x x ≡ isNan x
+unfolding ne
+differs x = ap not (float-equals-itself x) ∙ Bool·not-not (isNan x)
+
+float-to-bits-result : tie.Need-float-to-bits-result
+float-to-bits-result c = subst (λ (b : Bool). T (not b)) (sym (c .if1 .left) ∙ differs (c .before .args .x)) tt
+
+returns : tie.Need-returns
+unfolding toBits
+returns c = ap wordOf (sym (differs-from-itself (c .before .args .x) (subst T (sym (c .if1 .taken)) tt)))
+
+returns-2 : tie.Need-returns-2
+returns-2 c = search needs
+
+pub word-of-float-spec : {M : Type 1} → statement M
+word-of-float-spec = tie.close (tie.spec float-to-bits-result returns returns-2)

@@ -1,0 +1,3 @@
+pub mod Words
+pub mod Equality
+pub mod Rows

@@ -1,0 +1,15 @@
+pub mod Intervals
+pub mod WellFormed
+pub mod Answers
+pub mod Calls
+pub mod IntervalLaws
+pub mod StackLaws
+pub mod Sound
+pub mod TopLaws
+pub mod Marks
+pub mod MarkLaws
+pub mod FreeLaws
+pub mod GetLaws
+pub mod ReleaseLaws
+pub mod ChangeLaws
+pub mod DecisionLaws
