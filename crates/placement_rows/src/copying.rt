@@ -1,0 +1,37 @@
+// A stored row is copied out, turned by its place where the store rotates.
+use super::words::copy_from;
+use terms::FloatBits;
+ghost use mathlib.Core.Path.{_≡_};
+ghost use Prim.Native.Nat.{_+_, _*_, _≤_, _<_};
+ghost use lib.ListN.{length};
+ghost use Rattle.placement.specs.Copying.{turn, copied};
+
+fn turned_by(rotation: bool, dims: usize, base: usize, place: usize) -> usize
+    requires { ⌜ (0 < dims) × (place * base < 18446744073709551616) ⌝ }
+    ensures { λ r. ⌜ r ≡ turn rotation dims base place ⌝ }
+{
+    if rotation {
+        return place * base % dims;
+    }
+    0
+}
+
+// Two straight copies: the last stored words come first.
+pub fn copy(
+    store: &[FloatBits],
+    out: &mut [FloatBits],
+    rotation: bool,
+    dims: usize,
+    base: usize,
+    place: usize,
+)
+    requires { ⌜ (0 < dims) × (length (now out) ≡ dims) × (place * base + dims ≤ length (now store)) ⌝ }
+    ensures { λ _. ⌜ now (out .exit) ≡ copied rotation dims base place (now (store .entry)) ⌝ }
+{
+    let t = turned_by(rotation, dims, base, place);
+    let start = place * base;
+    let middle = start + (dims - t);
+    let end = start + dims;
+    copy_from(out, 0, &store[middle..end]);
+    copy_from(out, t, &store[start..middle]);
+}
