@@ -1,0 +1,134 @@
+// Compaction in one pass over the places in order: words are moved while the block's end is still being found, and places are
+// written as it goes.
+use super::index_table::index_places;
+use super::words::copy_down;
+use super::words::fill;
+use terms::FloatBits;
+ghost use mathlib.Core.Path.{_≡_};
+ghost use Prim.Native.Nat.{_+_, _*_, _/_, _≤_, _<_};
+ghost use lib.ListN.{length, take, replicate};
+ghost use Rattle.placement.specs.Alignment.{zerosBefore};
+ghost use Rattle.placement.specs.Compaction.{compacted};
+ghost use Rattle.placement.specs.Scanned.{advanced, scanned};
+ghost use Rattle.placement_rows.specs.Compactable.{Compactable, compactedTable, layout};
+ghost use Rattle.placement_rows.specs.IndexTable.{Indexed};
+ghost use Rattle.placement_rows.specs.OnePass.{runOf, Copyable, Scannable, met, scan};
+
+// An index with no point, and a place with no index.
+const EMPTY: u16 = 65535;
+
+// The write position, and the end of what was read.
+pub struct Progress {
+    pub free: usize,
+    pub read: usize,
+}
+
+// What is written for a point: zeros, and the words from `from` up to its end.
+pub struct Run {
+    pub zeros: usize,
+    pub from: usize,
+}
+
+// The subtraction wraps where the write position is above dims.
+fn zeros_before(rotation: bool, dims: usize, free: usize, start: usize) -> usize
+    requires { ⌜ 0 < dims ⌝ }
+    ensures { λ r. ⌜ r ≡ zerosBefore rotation dims free start ⌝ }
+{
+    if rotation {
+        let difference = std::num::wrapping_sub_usize(dims, free);
+        return std::num::wrapping_add_usize(difference, start) % dims;
+    }
+    0
+}
+
+fn next_run(dims: usize, base: usize, rotation: bool, place: usize, done: Progress) -> Run
+    requires { ⌜ (0 < dims) × (place * base < 18446744073709551616) ⌝ }
+    ensures { λ r. ⌜ r ≡ runOf dims base rotation place (done .free) (done .read) ⌝ }
+{
+    let start = place * base;
+    if start <= done.read {
+        return Run {
+            zeros: 0,
+            from: done.read,
+        };
+    }
+    Run {
+        zeros: zeros_before(rotation, dims, done.free, start),
+        from: start,
+    }
+}
+
+// The point ends where writing does.
+fn copy_run(
+    store: &mut [FloatBits],
+    location: &mut [u16],
+    dims: usize,
+    base: usize,
+    run: Run,
+    end: usize,
+    index: usize,
+    done: Progress,
+) -> Progress
+    requires { ⌜ Copyable dims base run end index (done .free) (length (now store)) (length (now location)) ⌝ }
+    ensures { λ r. ⌜ scan (now (store .exit)) (now (location .exit)) r ≡ advanced 0 dims base (run .zeros) (run .from) end index (scan (now (store .entry)) (now (location .entry)) done) ⌝ }
+{
+    let from = run.from;
+    let at = done.free + run.zeros;
+    fill(store, done.free, at, 0);
+    copy_down(store, at, from, end - from);
+    let free = at + (end - from);
+    location[index] = ((free - dims) / base) as u16;
+    Progress { free, read: end }
+}
+
+fn take_point(
+    store: &mut [FloatBits],
+    location: &mut [u16],
+    dims: usize,
+    base: usize,
+    rotation: bool,
+    place: usize,
+    index: usize,
+    done: Progress,
+) -> Progress
+    requires { ⌜ (0 < dims) × Copyable dims base (runOf dims base rotation place (done .free) (done .read)) (place * base + dims) index (done .free) (length (now store)) (length (now location)) ⌝ }
+    ensures { λ r. ⌜ scan (now (store .exit)) (now (location .exit)) r ≡ met dims base rotation place index (scan (now (store .entry)) (now (location .entry)) done) ⌝ }
+{
+    let run = next_run(dims, base, rotation, place, done);
+    let end = place * base + dims;
+    copy_run(store, location, dims, base, run, end, index, done)
+}
+
+fn scan_places(
+    store: &mut [FloatBits],
+    location: &mut [u16],
+    index_at: &[u16],
+    dims: usize,
+    base: usize,
+    rotation: bool,
+    start_free_region: usize,
+) -> usize
+    requires { ⌜ Scannable dims base (now location) (now «index_at») «start_free_region» (length (now store)) ⌝ }
+    ensures { λ r. ⌜ layout (now (store .exit)) (now (location .exit)) r ≡ compacted 0 dims base rotation (now (store .entry)) (now (location .entry)) «start_free_region» ⌝ }
+{
+    let places = start_free_region / base;
+    let mut done = Progress { free: 0, read: 0 };
+    let mut place = 0;
+    while place < places {
+        let index = index_at[place];
+        if index != EMPTY {
+            done = take_point(
+                store,
+                location,
+                dims,
+                base,
+                rotation,
+                place,
+                index as usize,
+                done,
+            );
+        }
+        place += 1;
+    }
+    done.free
+}
