@@ -4,7 +4,7 @@ use mathlib.Core.List.{List}
 use mathlib.Core.Path.{_≡_}
 use Prim.Native.Nat.{ℕ, _+_, _*_, _-_, _/_, _≤_, _<_}
 use lib.Dec.{leb}
-use lib.ListN.{length}
+use lib.ListN.{length, replicate}
 use Rattle.placement.specs.Alignment.{zerosBefore}
 use Rattle.placement.specs.Scanned.{Scanned, advanced}
 use Rattle.placement_rows.specs.Compactable.{Compactable}
@@ -42,5 +42,12 @@ met dims base rotation place i t =
 pub record Scannable (dims base : ℕ) (location table : List ℕ) (free words : ℕ) : Type 0 where
   pub compactable : Compactable dims base location free words
   pub indexed : Indexed location table (length location)
+  pub reaches : free / base ≤ length table
+  pub small : length table ≤ 65535
+
+-- a table with no index in it yet
+pub record Tabled (dims base : ℕ) (location table : List ℕ) (free words : ℕ) : Type 0 where
+  pub compactable : Compactable dims base location free words
+  pub clear : table ≡ replicate (length table) 65535
   pub reaches : free / base ≤ length table
   pub small : length table ≤ 65535

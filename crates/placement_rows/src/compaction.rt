@@ -12,7 +12,7 @@ ghost use Rattle.placement.specs.Compaction.{compacted};
 ghost use Rattle.placement.specs.Scanned.{advanced, scanned};
 ghost use Rattle.placement_rows.specs.Compactable.{Compactable, compactedTable, layout};
 ghost use Rattle.placement_rows.specs.IndexTable.{Indexed};
-ghost use Rattle.placement_rows.specs.OnePass.{runOf, Copyable, Scannable, met, scan};
+ghost use Rattle.placement_rows.specs.OnePass.{runOf, Copyable, Scannable, Tabled, met, scan};
 
 // An index with no point, and a place with no index.
 const EMPTY: u16 = 65535;
@@ -131,4 +131,169 @@ fn scan_places(
         place += 1;
     }
     done.free
+}
+
+// `index_at` has an entry for every place that a point can have.
+fn compact_with(
+    index_at: &mut [u16],
+    store: &mut [FloatBits],
+    location: &mut [u16],
+    dims: usize,
+    base: usize,
+    rotation: bool,
+    start_free_region: usize,
+) -> usize
+    requires { ⌜ Tabled dims base (now location) (now «index_at») «start_free_region» (length (now store)) ⌝ }
+    ensures { λ r. ⌜ layout (now (store .exit)) (now (location .exit)) r ≡ compacted 0 dims base rotation (now (store .entry)) (now (location .entry)) «start_free_region» ⌝ }
+{
+    index_places(location, index_at);
+    scan_places(
+        store,
+        location,
+        index_at,
+        dims,
+        base,
+        rotation,
+        start_free_region,
+    )
+}
+
+fn compact_256(
+    store: &mut [FloatBits],
+    location: &mut [u16],
+    dims: usize,
+    base: usize,
+    rotation: bool,
+    start_free_region: usize,
+) -> usize
+    requires { ⌜ Compactable dims base (now location) «start_free_region» (length (now store)) × («start_free_region» / base ≤ 256) ⌝ }
+    ensures { λ r. ⌜ layout (now (store .exit)) (now (location .exit)) r ≡ compacted 0 dims base rotation (now (store .entry)) (now (location .entry)) «start_free_region» ⌝ }
+{
+    let mut index_at = [EMPTY; 256];
+    compact_with(
+        &mut index_at,
+        store,
+        location,
+        dims,
+        base,
+        rotation,
+        start_free_region,
+    )
+}
+
+fn compact_1024(
+    store: &mut [FloatBits],
+    location: &mut [u16],
+    dims: usize,
+    base: usize,
+    rotation: bool,
+    start_free_region: usize,
+) -> usize
+    requires { ⌜ Compactable dims base (now location) «start_free_region» (length (now store)) × («start_free_region» / base ≤ 1024) ⌝ }
+    ensures { λ r. ⌜ layout (now (store .exit)) (now (location .exit)) r ≡ compacted 0 dims base rotation (now (store .entry)) (now (location .entry)) «start_free_region» ⌝ }
+{
+    let mut index_at = [EMPTY; 1024];
+    compact_with(
+        &mut index_at,
+        store,
+        location,
+        dims,
+        base,
+        rotation,
+        start_free_region,
+    )
+}
+
+fn compact_4096(
+    store: &mut [FloatBits],
+    location: &mut [u16],
+    dims: usize,
+    base: usize,
+    rotation: bool,
+    start_free_region: usize,
+) -> usize
+    requires { ⌜ Compactable dims base (now location) «start_free_region» (length (now store)) × («start_free_region» / base ≤ 4096) ⌝ }
+    ensures { λ r. ⌜ layout (now (store .exit)) (now (location .exit)) r ≡ compacted 0 dims base rotation (now (store .entry)) (now (location .entry)) «start_free_region» ⌝ }
+{
+    let mut index_at = [EMPTY; 4096];
+    compact_with(
+        &mut index_at,
+        store,
+        location,
+        dims,
+        base,
+        rotation,
+        start_free_region,
+    )
+}
+
+fn compact_16384(
+    store: &mut [FloatBits],
+    location: &mut [u16],
+    dims: usize,
+    base: usize,
+    rotation: bool,
+    start_free_region: usize,
+) -> usize
+    requires { ⌜ Compactable dims base (now location) «start_free_region» (length (now store)) × («start_free_region» / base ≤ 16384) ⌝ }
+    ensures { λ r. ⌜ layout (now (store .exit)) (now (location .exit)) r ≡ compacted 0 dims base rotation (now (store .entry)) (now (location .entry)) «start_free_region» ⌝ }
+{
+    let mut index_at = [EMPTY; 16384];
+    compact_with(
+        &mut index_at,
+        store,
+        location,
+        dims,
+        base,
+        rotation,
+        start_free_region,
+    )
+}
+
+// The table from place to index has the size that the free start asks for.
+fn compact_whole(
+    store: &mut [FloatBits],
+    location: &mut [u16],
+    dims: usize,
+    base: usize,
+    rotation: bool,
+    start_free_region: usize,
+) -> usize
+    requires { ⌜ Compactable dims base (now location) «start_free_region» (length (now store)) ⌝ }
+    ensures { λ r. ⌜ layout (now (store .exit)) (now (location .exit)) r ≡ compacted 0 dims base rotation (now (store .entry)) (now (location .entry)) «start_free_region» ⌝ }
+{
+    let places = start_free_region / base;
+    if places <= 256 {
+        return compact_256(store, location, dims, base, rotation, start_free_region);
+    }
+    if places <= 1024 {
+        return compact_1024(store, location, dims, base, rotation, start_free_region);
+    }
+    if places <= 4096 {
+        return compact_4096(store, location, dims, base, rotation, start_free_region);
+    }
+    compact_16384(store, location, dims, base, rotation, start_free_region)
+}
+
+// Answers the new free start. Only the first `table_length` entries of the table are points.
+pub fn compact(
+    store: &mut [FloatBits],
+    location: &mut [u16],
+    table_length: usize,
+    dims: usize,
+    base: usize,
+    rotation: bool,
+    start_free_region: usize,
+) -> usize
+    requires { ⌜ («table_length» ≤ length (now location)) × Compactable dims base (take «table_length» (now location)) «start_free_region» (length (now store)) ⌝ }
+    ensures { λ r. ⌜ layout (now (store .exit)) (now (location .exit)) r ≡ compactedTable dims base rotation «table_length» (now (store .entry)) (now (location .entry)) «start_free_region» ⌝ }
+{
+    compact_whole(
+        store,
+        &mut location[..table_length],
+        dims,
+        base,
+        rotation,
+        start_free_region,
+    )
 }

@@ -11,6 +11,7 @@ mod overlap;
 mod rows;
 mod words;
 
+pub use compaction::compact;
 pub use copying::copy;
 pub use growth::grow_store;
 pub use growth::grow_table;
