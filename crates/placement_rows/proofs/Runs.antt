@@ -3,13 +3,14 @@ use mathlib.Core.Bool.{Bool, true, false}
 use mathlib.Core.List.{List, _++_, append-nil}
 use mathlib.Core.Path.{_≡_, sym, ap, _∙_}
 use Prim.Native.Nat.{ℕ, _+_, _*_, _-_, _≤_, _<_}
-use native.Mathlib.Nat.{zero-add, sub-self, le-of-eq, le-of-lt, mod-lt}
+use native.Mathlib.Nat.{zero-add, sub-self, le-refl, le-of-eq, le-of-lt, mod-lt}
 use native.Mathlib.Omega.{arith}
 use lib.ListN.{length, take, drop, length-drop, drop-of-length-le}
 use lib.Seq.{paste, take-all, take-at, take-length, take-take, drop-append-add, drop-drop}
 use Rattle.placement.specs.Copying.{turn, turned}
 use Rattle.placement.specs.InPlace.{copiedWithin}
 use Rattle.placement.specs.Laying.{laidElements, writtenCount}
+use Rattle.placement.specs.Overlap.{overlaps}
 use Rattle.placement.specs.Pieces.{drop-piece, length-piece}
 use Rattle.placement.specs.Row.{piece, movedWindow}
 
@@ -40,6 +41,11 @@ module _ {E : Type 0} where
       let n : base + extra - base ≡ extra = omega arith in
       let counted : length (take extra (drop base w)) ≡ extra = length-piece base extra w h in
       rw (n, drop-front base extra w, take-at (take extra (drop base w)) point extra counted)
+
+  -- of a row only its first elements are compared
+  pub overlaps-head : (eq : E → E → Bool) (shingle extra free : ℕ) (elements row : List E) → overlaps eq shingle extra free elements (take extra row) ≡ overlaps eq shingle extra free elements row
+  unfolding overlaps
+  overlaps-head eq shingle extra free elements row = rw (take-take extra extra row (le-refl extra))
 
   -- a window copied down by the point's length, and then the point
   pub window-moved : (dims : ℕ) (w w′ point : List E) → length point ≤ dims → dims ≤ length w → w′ ≡ copiedWithin 0 (length point) (dims - length point) w

@@ -1,5 +1,6 @@
 // Compaction in one pass over the places in order: words are moved while the block's end is still being found, and places are
 // written as it goes.
+use super::EMPTY;
 use super::index_table::index_places;
 use super::words::copy_down;
 use super::words::fill;
@@ -14,9 +15,6 @@ ghost use Rattle.placement_rows.specs.Compactable.{Compactable, compacte
 ghost use Rattle.placement_rows.specs.IndexTable.{Indexed};
 ghost use Rattle.placement_rows.specs.OnePass.{runOf, Copyable, Scannable, Tabled, met, scan};
 
-// An index with no point, and a place with no index.
-const EMPTY: u16 = 65535;
-
 // The write position, and the end of what was read.
 pub struct Progress {
     pub free: usize,
@@ -29,21 +27,21 @@ pub struct Run {
     pub from: usize,
 }
 
-// The subtraction wraps where the write position is above dims.
-fn zeros_before(rotation: bool, dims: usize, free: usize, start: usize) -> usize
-    requires { ⌜ 0 < dims ⌝ }
-    ensures { λ r. ⌜ r ≡ zerosBefore rotation dims free start ⌝ }
+// The subtraction wraps where the write position is above dimensions.
+fn zeros_before(rotation: bool, dimensions: usize, free: usize, start: usize) -> usize
+    requires { ⌜ 0 < dimensions ⌝ }
+    ensures { λ r. ⌜ r ≡ zerosBefore rotation dimensions free start ⌝ }
 {
     if rotation {
-        let difference = std::num::wrapping_sub_usize(dims, free);
-        return std::num::wrapping_add_usize(difference, start) % dims;
+        let difference = std::num::wrapping_sub_usize(dimensions, free);
+        return std::num::wrapping_add_usize(difference, start) % dimensions;
     }
     0
 }
 
-fn next_run(dims: usize, base: usize, rotation: bool, place: usize, done: Progress) -> Run
-    requires { ⌜ (0 < dims) × (place * base < 18446744073709551616) ⌝ }
-    ensures { λ r. ⌜ r ≡ runOf dims base rotation place (done .free) (done .read) ⌝ }
+fn next_run(dimensions: usize, base: usize, rotation: bool, place: usize, done: Progress) -> Run
+    requires { ⌜ (0 < dimensions) × (place * base < 18446744073709551616) ⌝ }
+    ensures { λ r. ⌜ r ≡ runOf dimensions base rotation place (done .free) (done .read) ⌝ }
 {
     let start = place * base;
     if start <= done.read {
@@ -53,7 +51,7 @@ fn next_run(dims: usize, base: usize, rotation: bool, place: usize, done: Progre
         };
     }
     Run {
-        zeros: zeros_before(rotation, dims, done.free, start),
+        zeros: zeros_before(rotation, dimensions, done.free, start),
         from: start,
     }
 }
@@ -62,54 +60,54 @@ fn next_run(dims: usize, base: usize, rotation: bool, place: usize, done: Progre
 fn copy_run(
     store: &mut [FloatBits],
     location: &mut [u16],
-    dims: usize,
+    dimensions: usize,
     base: usize,
     run: Run,
     end: usize,
     index: usize,
     done: Progress,
 ) -> Progress
-    requires { ⌜ Copyable dims base run end index (done .free) (length (now store)) (length (now location)) ⌝ }
-    ensures { λ r. ⌜ scan (now (store .exit)) (now (location .exit)) r ≡ advanced 0 dims base (run .zeros) (run .from) end index (scan (now (store .entry)) (now (location .entry)) done) ⌝ }
+    requires { ⌜ Copyable dimensions base run end index (done .free) (length (now store)) (length (now location)) ⌝ }
+    ensures { λ r. ⌜ scan (now (store .exit)) (now (location .exit)) r ≡ advanced 0 dimensions base (run .zeros) (run .from) end index (scan (now (store .entry)) (now (location .entry)) done) ⌝ }
 {
     let from = run.from;
     let at = done.free + run.zeros;
     fill(store, done.free, at, 0);
     copy_down(store, at, from, end - from);
     let free = at + (end - from);
-    location[index] = ((free - dims) / base) as u16;
+    location[index] = ((free - dimensions) / base) as u16;
     Progress { free, read: end }
 }
 
 fn take_point(
     store: &mut [FloatBits],
     location: &mut [u16],
-    dims: usize,
+    dimensions: usize,
     base: usize,
     rotation: bool,
     place: usize,
     index: usize,
     done: Progress,
 ) -> Progress
-    requires { ⌜ (0 < dims) × Copyable dims base (runOf dims base rotation place (done .free) (done .read)) (place * base + dims) index (done .free) (length (now store)) (length (now location)) ⌝ }
-    ensures { λ r. ⌜ scan (now (store .exit)) (now (location .exit)) r ≡ met dims base rotation place index (scan (now (store .entry)) (now (location .entry)) done) ⌝ }
+    requires { ⌜ (0 < dimensions) × Copyable dimensions base (runOf dimensions base rotation place (done .free) (done .read)) (place * base + dimensions) index (done .free) (length (now store)) (length (now location)) ⌝ }
+    ensures { λ r. ⌜ scan (now (store .exit)) (now (location .exit)) r ≡ met dimensions base rotation place index (scan (now (store .entry)) (now (location .entry)) done) ⌝ }
 {
-    let run = next_run(dims, base, rotation, place, done);
-    let end = place * base + dims;
-    copy_run(store, location, dims, base, run, end, index, done)
+    let run = next_run(dimensions, base, rotation, place, done);
+    let end = place * base + dimensions;
+    copy_run(store, location, dimensions, base, run, end, index, done)
 }
 
 fn scan_places(
     store: &mut [FloatBits],
     location: &mut [u16],
     index_at: &[u16],
-    dims: usize,
+    dimensions: usize,
     base: usize,
     rotation: bool,
     start_free_region: usize,
 ) -> usize
-    requires { ⌜ Scannable dims base (now location) (now «index_at») «start_free_region» (length (now store)) ⌝ }
-    ensures { λ r. ⌜ layout (now (store .exit)) (now (location .exit)) r ≡ compacted 0 dims base rotation (now (store .entry)) (now (location .entry)) «start_free_region» ⌝ }
+    requires { ⌜ Scannable dimensions base (now location) (now «index_at») «start_free_region» (length (now store)) ⌝ }
+    ensures { λ r. ⌜ layout (now (store .exit)) (now (location .exit)) r ≡ compacted 0 dimensions base rotation (now (store .entry)) (now (location .entry)) «start_free_region» ⌝ }
 {
     let places = start_free_region / base;
     let mut done = Progress { free: 0, read: 0 };
@@ -120,7 +118,7 @@ fn scan_places(
             done = take_point(
                 store,
                 location,
-                dims,
+                dimensions,
                 base,
                 rotation,
                 place,
@@ -138,20 +136,20 @@ fn compact_with(
     index_at: &mut [u16],
     store: &mut [FloatBits],
     location: &mut [u16],
-    dims: usize,
+    dimensions: usize,
     base: usize,
     rotation: bool,
     start_free_region: usize,
 ) -> usize
-    requires { ⌜ Tabled dims base (now location) (now «index_at») «start_free_region» (length (now store)) ⌝ }
-    ensures { λ r. ⌜ layout (now (store .exit)) (now (location .exit)) r ≡ compacted 0 dims base rotation (now (store .entry)) (now (location .entry)) «start_free_region» ⌝ }
+    requires { ⌜ Tabled dimensions base (now location) (now «index_at») «start_free_region» (length (now store)) ⌝ }
+    ensures { λ r. ⌜ layout (now (store .exit)) (now (location .exit)) r ≡ compacted 0 dimensions base rotation (now (store .entry)) (now (location .entry)) «start_free_region» ⌝ }
 {
     index_places(location, index_at);
     scan_places(
         store,
         location,
         index_at,
-        dims,
+        dimensions,
         base,
         rotation,
         start_free_region,
@@ -161,20 +159,20 @@ fn compact_with(
 fn compact_256(
     store: &mut [FloatBits],
     location: &mut [u16],
-    dims: usize,
+    dimensions: usize,
     base: usize,
     rotation: bool,
     start_free_region: usize,
 ) -> usize
-    requires { ⌜ Compactable dims base (now location) «start_free_region» (length (now store)) × («start_free_region» / base ≤ 256) ⌝ }
-    ensures { λ r. ⌜ layout (now (store .exit)) (now (location .exit)) r ≡ compacted 0 dims base rotation (now (store .entry)) (now (location .entry)) «start_free_region» ⌝ }
+    requires { ⌜ Compactable dimensions base (now location) «start_free_region» (length (now store)) × («start_free_region» / base ≤ 256) ⌝ }
+    ensures { λ r. ⌜ layout (now (store .exit)) (now (location .exit)) r ≡ compacted 0 dimensions base rotation (now (store .entry)) (now (location .entry)) «start_free_region» ⌝ }
 {
     let mut index_at = [EMPTY; 256];
     compact_with(
         &mut index_at,
         store,
         location,
-        dims,
+        dimensions,
         base,
         rotation,
         start_free_region,
@@ -184,20 +182,20 @@ fn compact_256(
 fn compact_1024(
     store: &mut [FloatBits],
     location: &mut [u16],
-    dims: usize,
+    dimensions: usize,
     base: usize,
     rotation: bool,
     start_free_region: usize,
 ) -> usize
-    requires { ⌜ Compactable dims base (now location) «start_free_region» (length (now store)) × («start_free_region» / base ≤ 1024) ⌝ }
-    ensures { λ r. ⌜ layout (now (store .exit)) (now (location .exit)) r ≡ compacted 0 dims base rotation (now (store .entry)) (now (location .entry)) «start_free_region» ⌝ }
+    requires { ⌜ Compactable dimensions base (now location) «start_free_region» (length (now store)) × («start_free_region» / base ≤ 1024) ⌝ }
+    ensures { λ r. ⌜ layout (now (store .exit)) (now (location .exit)) r ≡ compacted 0 dimensions base rotation (now (store .entry)) (now (location .entry)) «start_free_region» ⌝ }
 {
     let mut index_at = [EMPTY; 1024];
     compact_with(
         &mut index_at,
         store,
         location,
-        dims,
+        dimensions,
         base,
         rotation,
         start_free_region,
@@ -207,20 +205,20 @@ fn compact_1024(
 fn compact_4096(
     store: &mut [FloatBits],
     location: &mut [u16],
-    dims: usize,
+    dimensions: usize,
     base: usize,
     rotation: bool,
     start_free_region: usize,
 ) -> usize
-    requires { ⌜ Compactable dims base (now location) «start_free_region» (length (now store)) × («start_free_region» / base ≤ 4096) ⌝ }
-    ensures { λ r. ⌜ layout (now (store .exit)) (now (location .exit)) r ≡ compacted 0 dims base rotation (now (store .entry)) (now (location .entry)) «start_free_region» ⌝ }
+    requires { ⌜ Compactable dimensions base (now location) «start_free_region» (length (now store)) × («start_free_region» / base ≤ 4096) ⌝ }
+    ensures { λ r. ⌜ layout (now (store .exit)) (now (location .exit)) r ≡ compacted 0 dimensions base rotation (now (store .entry)) (now (location .entry)) «start_free_region» ⌝ }
 {
     let mut index_at = [EMPTY; 4096];
     compact_with(
         &mut index_at,
         store,
         location,
-        dims,
+        dimensions,
         base,
         rotation,
         start_free_region,
@@ -230,20 +228,20 @@ fn compact_4096(
 fn compact_16384(
     store: &mut [FloatBits],
     location: &mut [u16],
-    dims: usize,
+    dimensions: usize,
     base: usize,
     rotation: bool,
     start_free_region: usize,
 ) -> usize
-    requires { ⌜ Compactable dims base (now location) «start_free_region» (length (now store)) × («start_free_region» / base ≤ 16384) ⌝ }
-    ensures { λ r. ⌜ layout (now (store .exit)) (now (location .exit)) r ≡ compacted 0 dims base rotation (now (store .entry)) (now (location .entry)) «start_free_region» ⌝ }
+    requires { ⌜ Compactable dimensions base (now location) «start_free_region» (length (now store)) × («start_free_region» / base ≤ 16384) ⌝ }
+    ensures { λ r. ⌜ layout (now (store .exit)) (now (location .exit)) r ≡ compacted 0 dimensions base rotation (now (store .entry)) (now (location .entry)) «start_free_region» ⌝ }
 {
     let mut index_at = [EMPTY; 16384];
     compact_with(
         &mut index_at,
         store,
         location,
-        dims,
+        dimensions,
         base,
         rotation,
         start_free_region,
@@ -254,25 +252,25 @@ fn compact_16384(
 fn compact_whole(
     store: &mut [FloatBits],
     location: &mut [u16],
-    dims: usize,
+    dimensions: usize,
     base: usize,
     rotation: bool,
     start_free_region: usize,
 ) -> usize
-    requires { ⌜ Compactable dims base (now location) «start_free_region» (length (now store)) ⌝ }
-    ensures { λ r. ⌜ layout (now (store .exit)) (now (location .exit)) r ≡ compacted 0 dims base rotation (now (store .entry)) (now (location .entry)) «start_free_region» ⌝ }
+    requires { ⌜ Compactable dimensions base (now location) «start_free_region» (length (now store)) ⌝ }
+    ensures { λ r. ⌜ layout (now (store .exit)) (now (location .exit)) r ≡ compacted 0 dimensions base rotation (now (store .entry)) (now (location .entry)) «start_free_region» ⌝ }
 {
     let places = start_free_region / base;
     if places <= 256 {
-        return compact_256(store, location, dims, base, rotation, start_free_region);
+        return compact_256(store, location, dimensions, base, rotation, start_free_region);
     }
     if places <= 1024 {
-        return compact_1024(store, location, dims, base, rotation, start_free_region);
+        return compact_1024(store, location, dimensions, base, rotation, start_free_region);
     }
     if places <= 4096 {
-        return compact_4096(store, location, dims, base, rotation, start_free_region);
+        return compact_4096(store, location, dimensions, base, rotation, start_free_region);
     }
-    compact_16384(store, location, dims, base, rotation, start_free_region)
+    compact_16384(store, location, dimensions, base, rotation, start_free_region)
 }
 
 // Answers the new free start. Only the first `table_length` entries of the table are points.
@@ -280,18 +278,18 @@ pub fn compact(
     store: &mut [FloatBits],
     location: &mut [u16],
     table_length: usize,
-    dims: usize,
+    dimensions: usize,
     base: usize,
     rotation: bool,
     start_free_region: usize,
 ) -> usize
-    requires { ⌜ («table_length» ≤ length (now location)) × Compactable dims base (take «table_length» (now location)) «start_free_region» (length (now store)) ⌝ }
-    ensures { λ r. ⌜ layout (now (store .exit)) (now (location .exit)) r ≡ compactedTable dims base rotation «table_length» (now (store .entry)) (now (location .entry)) «start_free_region» ⌝ }
+    requires { ⌜ («table_length» ≤ length (now location)) × Compactable dimensions base (take «table_length» (now location)) «start_free_region» (length (now store)) ⌝ }
+    ensures { λ r. ⌜ layout (now (store .exit)) (now (location .exit)) r ≡ compactedTable dimensions base rotation «table_length» (now (store .entry)) (now (location .entry)) «start_free_region» ⌝ }
 {
     compact_whole(
         store,
         &mut location[..table_length],
-        dims,
+        dimensions,
         base,
         rotation,
         start_free_region,

@@ -6,12 +6,12 @@ ghost use Prim.Native.Nat.{_+_, _*_, _≤_, _<_};
 ghost use lib.ListN.{length};
 ghost use Rattle.placement.specs.Copying.{turn, copied};
 
-fn turned_by(rotation: bool, dims: usize, base: usize, place: usize) -> usize
-    requires { ⌜ (0 < dims) × (place * base < 18446744073709551616) ⌝ }
-    ensures { λ r. ⌜ r ≡ turn rotation dims base place ⌝ }
+fn turned_by(rotation: bool, dimensions: usize, base: usize, place: usize) -> usize
+    requires { ⌜ (0 < dimensions) × (place * base < 18446744073709551616) ⌝ }
+    ensures { λ r. ⌜ r ≡ turn rotation dimensions base place ⌝ }
 {
     if rotation {
-        return place * base % dims;
+        return place * base % dimensions;
     }
     0
 }
@@ -21,17 +21,17 @@ pub fn copy(
     store: &[FloatBits],
     out: &mut [FloatBits],
     rotation: bool,
-    dims: usize,
+    dimensions: usize,
     base: usize,
     place: usize,
 )
-    requires { ⌜ (0 < dims) × (length (now out) ≡ dims) × (place * base + dims ≤ length (now store)) ⌝ }
-    ensures { λ _. ⌜ now (out .exit) ≡ copied rotation dims base place (now (store .entry)) ⌝ }
+    requires { ⌜ (0 < dimensions) × (length (now out) ≡ dimensions) × (place * base + dimensions ≤ length (now store)) ⌝ }
+    ensures { λ _. ⌜ now (out .exit) ≡ copied rotation dimensions base place (now (store .entry)) ⌝ }
 {
-    let t = turned_by(rotation, dims, base, place);
+    let t = turned_by(rotation, dimensions, base, place);
     let start = place * base;
-    let middle = start + (dims - t);
-    let end = start + dims;
+    let middle = start + (dimensions - t);
+    let end = start + dimensions;
     copy_from(out, 0, &store[middle..end]);
     copy_from(out, t, &store[start..middle]);
 }

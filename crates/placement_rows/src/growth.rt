@@ -1,4 +1,5 @@
 // How long the table or the store becomes, and what fills the new entries.
+use super::EMPTY;
 use super::words::fill;
 use terms::FloatBits;
 ghost use mathlib.Core.Path.{_≡_};
@@ -6,9 +7,6 @@ ghost use Prim.Native.Nat.{_-_, _≤_};
 ghost use lib.ListN.{length};
 ghost use Rattle.placement.specs.Growth.{grown};
 ghost use Rattle.placement.specs.InPlace.{filled};
-
-// The place of an index that has no point.
-const EMPTY: u16 = 65535;
 
 pub fn grown_length(length: usize, least: usize, limit: usize) -> usize
     requires { ⌜ length ≤ limit ⌝ }

@@ -1,12 +1,10 @@
 // A table from place to index.
+use super::EMPTY;
 ghost use mathlib.Core.Path.{_≡_};
 ghost use Prim.Native.Nat.{ℕ, _≤_, _<_};
 ghost use lib.ListN.{length, getD, replicate};
 ghost use Rattle.placement.specs.Places.{Live};
 ghost use Rattle.placement_rows.specs.IndexTable.{Indexed};
-
-// An index with no point, and a place with no index.
-const EMPTY: u16 = 65535;
 
 // Each index is entered at its place, in a table that has no index in it.
 pub fn index_places(location: &[u16], index_at: &mut [u16])

@@ -17,16 +17,16 @@ pub struct LaidRow {
 pub fn lay(
     store: &mut [FloatBits],
     row: &[FloatBits],
-    dims: usize,
+    dimensions: usize,
     base: usize,
     start_free_region: usize,
     joined: bool,
 ) -> LaidRow
-    requires { ⌜ Layable dims base joined «start_free_region» (length (now row)) (length (now store)) ⌝ }
-    ensures elements { λ _. ⌜ now (store .exit) ≡ laidElements dims base joined «start_free_region» (now (store .entry)) (now (row .entry)) ⌝ }
-    ensures answer { λ r. ⌜ (r .laid ≡ laidAs dims base joined «start_free_region») × (r .«start_free_region» ≡ laidFree dims base joined «start_free_region») ⌝ }
+    requires { ⌜ Layable dimensions base joined «start_free_region» (length (now row)) (length (now store)) ⌝ }
+    ensures elements { λ _. ⌜ now (store .exit) ≡ laidElements dimensions base joined «start_free_region» (now (store .entry)) (now (row .entry)) ⌝ }
+    ensures answer { λ r. ⌜ (r .laid ≡ laidAs dimensions base joined «start_free_region») × (r .«start_free_region» ≡ laidFree dimensions base joined «start_free_region») ⌝ }
 {
-    let extra = dims - base;
+    let extra = dimensions - base;
     if joined {
         copy_from(store, start_free_region, &row[extra..]);
         return LaidRow {
@@ -37,6 +37,6 @@ pub fn lay(
     copy_from(store, start_free_region, row);
     LaidRow {
         laid: Laid::Whole(start_free_region / base),
-        start_free_region: start_free_region + dims,
+        start_free_region: start_free_region + dimensions,
     }
 }

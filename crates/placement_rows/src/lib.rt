@@ -19,7 +19,12 @@ pub use growth::grown_length;
 pub use laying::LaidRow;
 pub use laying::lay;
 pub use overlap::ready_to_copy;
+pub use overlap::row_joins;
 pub use rows::head;
 pub use rows::move_window;
 pub use rows::row;
+pub use growth::fill_table;
 pub use words::fill;
+
+// The place of an index that has no point, and the index of a place where none stands.
+const EMPTY: u16 = 65535;

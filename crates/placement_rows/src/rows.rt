@@ -13,15 +13,15 @@ pub fn row<'a>(
     window: &'a [FloatBits],
     point: &'a [FloatBits],
     internal: bool,
-    dims: usize,
+    dimensions: usize,
 ) -> &'a [FloatBits]
-    requires { ⌜ dims ≤ length (rowToLay internal (now window) (now point)) ⌝ }
-    ensures { λ r. ⌜ now r ≡ take dims (rowToLay internal (now (window .entry)) (now (point .entry))) ⌝ }
+    requires { ⌜ dimensions ≤ length (rowToLay internal (now window) (now point)) ⌝ }
+    ensures { λ r. ⌜ now r ≡ take dimensions (rowToLay internal (now (window .entry)) (now (point .entry))) ⌝ }
 {
     if internal {
-        return &window[..dims];
+        return &window[..dimensions];
     }
-    &point[..dims]
+    &point[..dimensions]
 }
 
 // The first words of the row to be laid, while the window is not moved yet: whether the row fits is judged before the move.
@@ -33,7 +33,7 @@ pub fn head<'a>(
     extra: usize,
 ) -> &'a [FloatBits]
     requires { ⌜ base + extra ≤ length (rowToLay internal (now window) (now point)) ⌝ }
-    ensures { λ r. ⌜ now r ≡ take extra (rowToLay internal (movedWindow base (take (base + extra) (now (window .entry))) (now (point .entry))) (now (point .entry))) ⌝ }
+    ensures { λ r. ⌜ (now r ≡ take extra (rowToLay internal (movedWindow base (take (base + extra) (now (window .entry))) (now (point .entry))) (now (point .entry)))) × (length (now r) ≡ extra) ⌝ }
 {
     if internal {
         let end = base + extra;
@@ -42,13 +42,13 @@ pub fn head<'a>(
     &point[..extra]
 }
 
-// The window drops its first entries and gains the point. Only its first dims entries are the window.
-pub fn move_window(window: &mut [FloatBits], point: &[FloatBits], dims: usize)
-    requires { ⌜ (length (now point) ≤ dims) × (dims ≤ length (now window)) ⌝ }
-    ensures { λ _. ⌜ now (window .exit) ≡ movedWindow (length (now (point .entry))) (take dims (now (window .entry))) (now (point .entry)) ++ drop dims (now (window .entry)) ⌝ }
+// The window drops its first entries and gains the point. Only its first dimensions entries are the window.
+pub fn move_window(window: &mut [FloatBits], point: &[FloatBits], dimensions: usize)
+    requires { ⌜ (length (now point) ≤ dimensions) × (dimensions ≤ length (now window)) ⌝ }
+    ensures { λ _. ⌜ now (window .exit) ≡ movedWindow (length (now (point .entry))) (take dimensions (now (window .entry))) (now (point .entry)) ++ drop dimensions (now (window .entry)) ⌝ }
 {
     let base = point.len();
-    let extra = dims - base;
+    let extra = dimensions - base;
     copy_down(window, 0, base, extra);
     copy_from(window, extra, point);
 }

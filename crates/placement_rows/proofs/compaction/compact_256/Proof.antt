@@ -13,7 +13,7 @@ compact-with-requires : tie.Need-compact-with-requires
 compact-with-requires c κs =
     let start = c .before .before .before .before .before in
     let a = start .args in
-    clear-table (a .dims) (a .base) (a .location .now) (a .start-free-region) (length (a .store .now)) 256 (lit≤ tt) (start .pre .1) (start .pre .0)
+    clear-table (a .dimensions) (a .base) (a .location .now) (a .start-free-region) (length (a .store .now)) 256 (lit≤ tt) (start .pre .1) (start .pre .0)
 
 same-length : tie.Need-same-length
 same-length c = c .before .before .before .before .before .compact-with .kept .1 .0

@@ -33,7 +33,7 @@ cast-location : tie.Need-cast-location
 cast-location c =
     let start = c .before .before .before .before .before .before .before .before .before .before .before .before in
     let a = start .args in
-    record { fits = place-fits (a .dims) (a .base) (a .run) (a .end) (a .index) (a .done) (length (a .store .now)) (length (a .location .now)) (start .pre) }
+    record { fits = place-fits (a .dimensions) (a .base) (a .run) (a .end) (a .index) (a .done) (length (a .store .now)) (length (a .location .now)) (start .pre) }
 
 mul-location : tie.Need-mul-location
 mul-location c = search needs
@@ -50,7 +50,7 @@ same-length-2 c = search needs
 returns : tie.Need-returns
 returns c =
     let a = c .before .before .before .before .before .before .before .before .before .before .before .before .args in
-    run-copied (a .dims) (a .base) (a .run) (a .end) (a .index) (a .done) (a .store .now) (a .location .now) (c .before .before .before .before .before .before .fill .last .0) (c .before .before .copy-down .last .0) (c .before .before .before .before .before .before .fill .ensures) (c .before .before .copy-down .ensures)
+    run-copied (a .dimensions) (a .base) (a .run) (a .end) (a .index) (a .done) (a .store .now) (a .location .now) (c .before .before .before .before .before .before .fill .last .0) (c .before .before .copy-down .last .0) (c .before .before .before .before .before .before .fill .ensures) (c .before .before .copy-down .ensures)
 
 pub copy-run-spec : {M : Type 1} → statement M
 copy-run-spec =

@@ -25,7 +25,7 @@ loop-holds : tie.Need-loop-holds Inv-loop μ-loop
 loop-holds c =
     let start = c .before .before .before in
     let a = start .args in
-    (search needs, scan-first (a .dims) (a .base) (a .rotation) (a .store .now) (a .location .now) (a .index-at .now) (a .start-free-region) (start .pre))
+    (search needs, scan-first (a .dimensions) (a .base) (a .rotation) (a .store .now) (a .location .now) (a .index-at .now) (a .start-free-region) (start .pre))
 
 mul-index : tie.Need-mul-index Inv-loop μ-loop
 mul-index c =
@@ -57,7 +57,7 @@ take-point-requires c κs =
     let start = at .before .before .before .before in
     let a = start .args in
     let inv = at .loop .inv in
-    can-take (a .dims) (a .base) (a .rotation) (a .store .now) (a .location .now) (a .index-at .now) (a .start-free-region) (start .pre) (at .loop .place) (at .loop .store) (at .loop .location) (at .loop .done) (inv .1) (omega arith) (c .before .before .if1 .taken)
+    can-take (a .dimensions) (a .base) (a .rotation) (a .store .now) (a .location .now) (a .index-at .now) (a .start-free-region) (start .pre) (at .loop .place) (at .loop .store) (at .loop .location) (at .loop .done) (inv .1) (omega arith) (c .before .before .if1 .taken)
 
 add-place : tie.Need-add-place Inv-loop μ-loop
 add-place c = search needs
@@ -73,8 +73,8 @@ loop-again c =
     let inv = at .loop .inv in
     let inside = c .before .before .loop-test .taken in
     ⊎-elim
-    (λ w. (search needs, scan-same (w .8) (w .9) (w .10) ∙ takes (a .dims) (a .base) (a .rotation) (a .store .now) (a .location .now) (a .index-at .now) (a .start-free-region) (start .pre) (at .loop .place) (at .loop .store) (at .loop .location) (at .loop .done) (inv .1) inside (w .0 .taken) (w .3 .last .0) (w .3 .last .1 .0) (w .3 .result) (w .3 .ensures)))
-    (λ w. (search needs, scan-same (w .1) (w .2) (w .3) ∙ passes (a .dims) (a .base) (a .rotation) (a .store .now) (a .location .now) (a .index-at .now) (a .start-free-region) (start .pre) (at .loop .place) (at .loop .store) (at .loop .location) (at .loop .done) (inv .1) inside (w .0 .left)))
+    (λ w. (search needs, scan-same (w .8) (w .9) (w .10) ∙ takes (a .dimensions) (a .base) (a .rotation) (a .store .now) (a .location .now) (a .index-at .now) (a .start-free-region) (start .pre) (at .loop .place) (at .loop .store) (at .loop .location) (at .loop .done) (inv .1) inside (w .0 .taken) (w .3 .last .0) (w .3 .last .1 .0) (w .3 .result) (w .3 .ensures)))
+    (λ w. (search needs, scan-same (w .1) (w .2) (w .3) ∙ passes (a .dimensions) (a .base) (a .rotation) (a .store .now) (a .location .now) (a .index-at .now) (a .start-free-region) (start .pre) (at .loop .place) (at .loop .store) (at .loop .location) (at .loop .done) (inv .1) inside (w .0 .left)))
     (c .if1 .came)
 
 same-length : tie.Need-same-length Inv-loop μ-loop
@@ -83,7 +83,7 @@ same-length c =
     let start = at .before .before .before .before in
     let a = start .args in
     let inv = at .loop .inv in
-    elements-kept (a .dims) (a .base) (a .rotation) (a .store .now) (a .location .now) (a .index-at .now) (a .start-free-region) (start .pre) (at .loop .place) (at .loop .store) (at .loop .location) (at .loop .done) (inv .1) (inv .0)
+    elements-kept (a .dimensions) (a .base) (a .rotation) (a .store .now) (a .location .now) (a .index-at .now) (a .start-free-region) (start .pre) (at .loop .place) (at .loop .store) (at .loop .location) (at .loop .done) (inv .1) (inv .0)
 
 same-length-2 : tie.Need-same-length-2 Inv-loop μ-loop
 same-length-2 c =
@@ -91,7 +91,7 @@ same-length-2 c =
     let start = at .before .before .before .before in
     let a = start .args in
     let inv = at .loop .inv in
-    indices-kept (a .dims) (a .base) (a .rotation) (a .store .now) (a .location .now) (a .index-at .now) (a .start-free-region) (start .pre) (at .loop .place) (at .loop .store) (at .loop .location) (at .loop .done) (inv .1) (inv .0)
+    indices-kept (a .dimensions) (a .base) (a .rotation) (a .store .now) (a .location .now) (a .index-at .now) (a .start-free-region) (start .pre) (at .loop .place) (at .loop .store) (at .loop .location) (at .loop .done) (inv .1) (inv .0)
 
 returns : tie.Need-returns Inv-loop μ-loop
 returns c =
@@ -100,7 +100,7 @@ returns c =
     let a = start .args in
     let inv = at .loop .inv in
     let done : at .loop .place ≡ a .start-free-region / a .base = omega arith in
-    scan-last (a .dims) (a .base) (a .rotation) (a .store .now) (a .location .now) (a .index-at .now) (a .start-free-region) (start .pre) (at .loop .store) (at .loop .location) (at .loop .done) (inv .1 ∙ ap (scanned 0 (a .dims) (a .base) (a .rotation) (a .store .now) (a .location .now)) done)
+    scan-last (a .dimensions) (a .base) (a .rotation) (a .store .now) (a .location .now) (a .index-at .now) (a .start-free-region) (start .pre) (at .loop .store) (at .loop .location) (at .loop .done) (inv .1 ∙ ap (scanned 0 (a .dimensions) (a .base) (a .rotation) (a .store .now) (a .location .now)) done)
 
 pub scan-places-spec : {M : Type 1} → statement M
 scan-places-spec =

@@ -21,7 +21,7 @@ add-end c = search needs
 copy-run-requires : tie.Need-copy-run-requires
 copy-run-requires c κs =
     let a = c .before .before .before .before .before .args in
-    subst (λ (run : Run). Copyable (a .dims) (a .base) run (a .place * a .base + a .dims) (a .index) (a .done .free) (length (a .store .now)) (length (a .location .now))) (sym (c .before .before .next-run .ensures)) (c .before .before .before .before .before .pre .1)
+    subst (λ (run : Run). Copyable (a .dimensions) (a .base) run (a .place * a .base + a .dimensions) (a .index) (a .done .free) (length (a .store .now)) (length (a .location .now))) (sym (c .before .before .next-run .ensures)) (c .before .before .before .before .before .pre .1)
 
 same-length : tie.Need-same-length
 same-length c = search needs
@@ -33,7 +33,7 @@ returns : tie.Need-returns
 unfolding met
 returns c =
     let a = c .before .before .before .before .before .before .before .before .before .before .args in
-    c .before .before .before .before .copy-run .ensures ∙ ap (λ (run : Run). advanced 0 (a .dims) (a .base) (run .zeros) (run .from) (a .place * a .base + a .dims) (a .index) (scan (a .store .now) (a .location .now) (a .done))) (c .before .before .before .before .before .before .before .next-run .ensures)
+    c .before .before .before .before .copy-run .ensures ∙ ap (λ (run : Run). advanced 0 (a .dimensions) (a .base) (run .zeros) (run .from) (a .place * a .base + a .dimensions) (a .index) (scan (a .store .now) (a .location .now) (a .done))) (c .before .before .before .before .before .before .before .next-run .ensures)
 
 pub take-point-spec : {M : Type 1} → statement M
 take-point-spec =

@@ -19,7 +19,7 @@ returns : tie.Need-returns
 unfolding zerosBefore
 returns c =
     let a = c .before .before .before .args in
-    rw (c .before .before .if1 .taken) (wrapped (a .dims) (a .free) (a .start) (c .before .wrapping-sub-usize .result) (c .wrapping-add-usize .result) (omega arith) (omega arith) (omega arith) (c .before .wrapping-sub-usize .ensures) (c .wrapping-add-usize .ensures))
+    rw (c .before .before .if1 .taken) (wrapped (a .dimensions) (a .free) (a .start) (c .before .wrapping-sub-usize .result) (c .wrapping-add-usize .result) (omega arith) (omega arith) (omega arith) (c .before .wrapping-sub-usize .ensures) (c .wrapping-add-usize .ensures))
 
 returns-2 : tie.Need-returns-2
 unfolding zerosBefore

@@ -19,7 +19,7 @@ mul-start c = search needs
 sub-middle : tie.Need-sub-middle
 sub-middle c =
     let a = c .before .before .before .args in
-    turn-within (a .rotation) (a .dims) (a .base) (a .place) (c .turned-by .result) (c .before .before .before .pre .0) (c .turned-by .ensures)
+    turn-within (a .rotation) (a .dimensions) (a .base) (a .place) (c .turned-by .result) (c .before .before .before .pre .0) (c .turned-by .ensures)
 
 add-middle : tie.Need-add-middle
 add-middle c = search needs
@@ -59,7 +59,7 @@ copy-from-requires-2 c κs =
     let start = c .before .before .before .before .before .before .before .before .before .before in
     let a = start .args in
     let turn = c .before .before .before .before .before .before .before .turned-by in
-    let small = turn-within (a .rotation) (a .dims) (a .base) (a .place) (turn .result) (start .pre .0) (turn .ensures) in
+    let small = turn-within (a .rotation) (a .dimensions) (a .base) (a .place) (turn .result) (start .pre .0) (turn .ensures) in
     simp (length-take, length-drop) (omega (arith, c .before .before .before .before .copy-from .kept .0, start .pre))
 
 same-length : tie.Need-same-length
@@ -71,11 +71,10 @@ returns c =
     let start = c .before .before .before .before .before .before .before .before .before .before .before .before .before in
     let a = start .args in
     let turn = c .before .before .before .before .before .before .before .before .before .before .turned-by in
-    let small = turn-within (a .rotation) (a .dims) (a .base) (a .place) (turn .result) (start .pre .0) (turn .ensures) in
+    let small = turn-within (a .rotation) (a .dimensions) (a .base) (a .place) (turn .result) (start .pre .0) (turn .ensures) in
     c .before .before .copy-from2 .ensures
-    ∙ turned-copied (a .dims) (turn .result) (a .place * a .base) (a .store .now) (a .out .now) (c .before .before .before .before .before .before .before .copy-from .last .0) small (start .pre .1) (start .pre .2) (c .before .before .before .before .before .before .before .copy-from .ensures)
-    ∙ ap (λ (t : ℕ). turned (a .dims) t (piece (a .place * a .base) (a .dims) (a .store .now))) (turn .ensures)
-
+    ∙ turned-copied (a .dimensions) (turn .result) (a .place * a .base) (a .store .now) (a .out .now) (c .before .before .before .before .before .before .before .copy-from .last .0) small (start .pre .1) (start .pre .2) (c .before .before .before .before .before .before .before .copy-from .ensures)
+    ∙ ap (λ (t : ℕ). turned (a .dimensions) t (piece (a .place * a .base) (a .dimensions) (a .store .now))) (turn .ensures)
 pub copy-spec : {M : Type 1} → statement M
 copy-spec =
     tie.close

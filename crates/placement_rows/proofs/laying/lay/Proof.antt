@@ -46,7 +46,7 @@ unfolding laidAs laidFree writtenCount
 returns c =
     let a = c .before .before .before .before .before .before .before .before .args in
     let pre = c .before .before .before .before .before .before .before .before .pre in
-    rw (c .before .before .before .before .before .if1 .taken) (c .before .before .copy-from .ensures ∙ laid-joined (a .dims) (a .base) (a .start-free-region) (a .store .now) (a .row .now) (pre .whole) (pre .wide), (refl, refl))
+    rw (c .before .before .before .before .before .if1 .taken) (c .before .before .copy-from .ensures ∙ laid-joined (a .dimensions) (a .base) (a .start-free-region) (a .store .now) (a .row .now) (pre .whole) (pre .wide), (refl, refl))
 
 copy-from-requires-2 : tie.Need-copy-from-requires-2
 unfolding writtenCount
@@ -68,8 +68,7 @@ unfolding laidAs laidFree writtenCount
 returns-2 c =
     let a = c .before .before .before .before .before .before .before .args in
     let pre = c .before .before .before .before .before .before .before .pre in
-    rw (c .before .before .before .before .if1 .left) (c .before .before .copy-from2 .ensures ∙ laid-whole (a .dims) (a .base) (a .start-free-region) (a .store .now) (a .row .now) (pre .whole), (refl, refl))
-
+    rw (c .before .before .before .before .if1 .left) (c .before .before .copy-from2 .ensures ∙ laid-whole (a .dimensions) (a .base) (a .start-free-region) (a .store .now) (a .row .now) (pre .whole), (refl, refl))
 pub lay-spec : {M : Type 1} → statement M
 lay-spec =
     tie.close

@@ -1,5 +1,6 @@
 -- The window's part is what the moved window begins with.
-use lib.ListN.{length-take}
+use mathlib.Core.Path.{refl}
+use lib.ListN.{length-take, length-drop}
 use Rattle.placement.specs.Row.{rowToLay}
 use Rattle.placement_rows.proofs.Runs.{moved-head}
 use borrow.Author.Needs.{needs}
@@ -36,7 +37,7 @@ unfolding rowToLay
 returns c =
     let a = c .before .before .args in
     let fits = rw (c .before .if1 .taken) at (c .before .before .pre) in
-    rw (c .before .if1 .taken) (moved-head (a .base) (a .extra) (a .window .now) (a .point .now) fits)
+    rw (c .before .if1 .taken) (moved-head (a .base) (a .extra) (a .window .now) (a .point .now) fits, simp (length-take, length-drop) (omega arith))
 
 slice-aggregate-result : tie.Need-slice-aggregate-result
 unfolding rowToLay
@@ -46,8 +47,9 @@ slice-aggregate-result c =
 
 returns-2 : tie.Need-returns-2
 unfolding rowToLay
-returns-2 c = rw (c .before .if1 .left)
-
+returns-2 c =
+    let fits = rw (c .before .if1 .left) at (c .before .before .pre) in
+    rw (c .before .if1 .left) (refl, simp length-take (omega arith))
 pub head-spec : {M : Type 1} → statement M
 head-spec =
     tie.close
