@@ -2,14 +2,13 @@
 use mathlib.Core.List.{List}
 use mathlib.Core.Path.{_≡_, ap, _∙_}
 use Prim.Native.Nat.{ℕ, _+_, _-_, _/_, _%_, _^_, _<_}
-use native.Mathlib.Nat.{div-le-self}
 use native.Mathlib.Omega.{arith}
 use lib.ListN.{set}
 use Rattle.placement.specs.Alignment.{wrappingAdd, alignment}
 use Rattle.placement.specs.AlignmentLaws.{wrapping-sub}
 use Rattle.placement.specs.InPlace.{copiedWithin, filled}
 use Rattle.placement.specs.Scanned.{advanced}
-use Rattle.placement_rows.specs.OnePass.{scan, Copyable}
+use Rattle.placement_rows.specs.OnePass.{scan}
 use Rattle.placement_rows.specs.declared.compaction.Progress.{Progress}
 use Rattle.placement_rows.specs.declared.compaction.Run.{Run}
 
@@ -22,9 +21,6 @@ wrapped dims free start d s hd hf hr difference sum =
 module _ (dims base : ℕ) (run : Run) (end i : ℕ) (done : Progress) where
   abbrev free : ℕ
   free = done .free + run .zeros + (end - run .from)
-
-  pub place-fits : (words indices : ℕ) → Copyable dims base run end i (done .free) words indices → (free - dims) / base < 2 ^ 16
-  place-fits words indices c = omega (arith, div-le-self (free - dims) base, c .behind, c .forward, c .small)
 
   pub run-copied : (store location zeroed after : List ℕ) → zeroed ≡ filled 0 (done .free) (done .free + run .zeros - done .free) store
       → after ≡ copiedWithin (done .free + run .zeros) (run .from) (end - run .from) zeroed

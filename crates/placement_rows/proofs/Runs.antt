@@ -6,8 +6,8 @@ use Prim.Native.Nat.{ℕ, _+_, _*_, _-_, _≤_, _<_}
 use native.Mathlib.Nat.{zero-add, sub-self, le-refl, le-of-eq, le-of-lt, mod-lt}
 use native.Mathlib.Omega.{arith}
 use lib.ListN.{length, take, drop, length-drop, drop-of-length-le}
-use lib.Seq.{paste, take-all, take-at, take-length, take-take, drop-append-add, drop-drop}
-use Rattle.placement.specs.Copying.{turn, turned}
+use lib.Seq.{paste, length-take-le, take-all, take-at, take-length, take-take, drop-append-add, drop-drop}
+use Rattle.placement.specs.Copying.{turn, turned, copied}
 use Rattle.placement.specs.InPlace.{copiedWithin}
 use Rattle.placement.specs.Laying.{laidElements, writtenCount}
 use Rattle.placement.specs.Overlap.{overlaps}
@@ -69,25 +69,31 @@ module _ {E : Type 0} where
       ∙ ap (λ (l : List E). a ++ b ++ l) (drop-drop (length b) (length a) out ∙ drop-of-length-le out {i = length a + length b} (le-of-eq (whole ∙ rw counted)))
       ∙ append-nil (a ++ b)
 
-  -- the last t elements of a row, and then the others
-  pub turned-copied : (dims t start : ℕ) (store out out′ : List E) → t ≤ dims → length out ≡ dims → start + dims ≤ length store
-      → out′ ≡ paste out 0 (piece (start + (dims - t)) (start + dims - (start + (dims - t))) store) (length (piece (start + (dims - t)) (start + dims - (start + (dims - t))) store))
-      → paste out′ t (piece start (start + (dims - t) - start) store) (length (piece start (start + (dims - t) - start) store)) ≡ turned dims t (piece start dims store)
+  -- the last elements of a row, and then the others
+  pub turned-copied : (last others : ℕ) (row out out′ : List E) → length row ≡ last + others → length out ≡ last + others
+      → out′ ≡ paste out 0 (take (length row - others) (drop others row)) (length (take (length row - others) (drop others row)))
+      → paste out′ last (take others row) (length (take others row)) ≡ turned (last + others) last row
   unfolding turned
-  turned-copied dims t start store out out′ small counted ends e =
-      let rest : ℕ = dims - t in
-      let a : List E = piece (start + rest) t store in
-      let b : List E = piece start rest store in
-      let last : start + dims - (start + rest) ≡ t = omega arith in
-      let others : start + rest - start ≡ rest = omega arith in
-      let counted-a : length a ≡ t = length-piece (start + rest) t store (omega arith) in
-      let counted-b : length b ≡ rest = length-piece start rest store (omega arith) in
-      let all : dims ≡ rest + t = omega arith in
-      ap (λ (n : ℕ). paste out′ t (piece start n store) (length (piece start n store))) others
-      ∙ ap (λ (l : List E). paste l t b (length b)) (e ∙ ap (λ (n : ℕ). paste out 0 (piece (start + rest) n store) (length (piece (start + rest) n store))) last)
-      ∙ paste-both a b out t counted-a (omega arith)
-      ∙ ap (λ (l : List E). l ++ b) (sym (ap (λ (n : ℕ). drop rest (piece start n store)) all ∙ drop-piece start rest t store))
-      ∙ ap (λ (l : List E). drop rest (piece start dims store) ++ l) (sym (take-take rest dims (drop start store) (omega arith)))
+  turned-copied last others row out out′ whole counted e =
+      let n : last + others - last ≡ others = omega arith in
+      let counted-last : length (drop others row) ≡ length row - others = length-drop others row in
+      let all : take (length row - others) (drop others row) ≡ drop others row = take-all (length row - others) (drop others row) (le-of-eq counted-last) in
+      let counted-others : length (take others row) ≡ others = length-take-le others row (omega arith) in
+      ap (λ (l : List E). paste l last (take others row) (length (take others row))) (e ∙ ap (λ (l : List E). paste out 0 l (length l)) all)
+      ∙ paste-both (drop others row) (take others row) out last (omega arith) (omega arith)
+      ∙ ap (λ (m : ℕ). drop m row ++ take m row) (sym n)
+
+  -- the row that stands at a place, turned
+  pub copy-turned : (rotation : Bool) (dims base place t : ℕ) (store out : List E) → t ≤ dims → t ≡ turn rotation dims base place
+      → out ≡ turned (t + (dims - t)) t (piece (place * base) (place * base + dims - place * base) store) → out ≡ copied rotation dims base place store
+  unfolding copied
+  copy-turned rotation dims base place t store out small e f =
+      let whole : t + (dims - t) ≡ dims = omega arith in
+      let count : place * base + dims - place * base ≡ dims = omega arith in
+      f
+      ∙ ap (λ (n : ℕ). turned n t (piece (place * base) (place * base + dims - place * base) store)) whole
+      ∙ ap (λ (n : ℕ). turned dims t (piece (place * base) n store)) count
+      ∙ ap (λ (n : ℕ). turned dims n (piece (place * base) dims store)) e
 
   -- a row laid whole, and its last part alone
   pub laid-whole : (dims base free : ℕ) (store row : List E) → length row ≡ dims → paste store free row (length row) ≡ laidElements dims base false free store row

@@ -1,6 +1,6 @@
 -- A table of n entries serves the scan: every live place has an entry, and once the points are entered the scan can start.
 use mathlib.Core.List.{List}
-use mathlib.Core.Path.{_≡_, refl, sym, ap}
+use mathlib.Core.Path.{_≡_, sym, ap}
 use Prim.Native.Nat.{ℕ, _/_, _≤_, _<_}
 use native.Mathlib.Nat.{le-of-dvd, le-div-iff-mul-le}
 use native.Mathlib.Omega.{arith}

@@ -7,12 +7,11 @@ use super::words::fill;
 use terms::FloatBits;
 ghost use mathlib.Core.Path.{_≡_};
 ghost use Prim.Native.Nat.{_+_, _*_, _/_, _≤_, _<_};
-ghost use lib.ListN.{length, take, replicate};
+ghost use lib.ListN.{length, take};
 ghost use Rattle.placement.specs.Alignment.{zerosBefore};
 ghost use Rattle.placement.specs.Compaction.{compacted};
-ghost use Rattle.placement.specs.Scanned.{advanced, scanned};
+ghost use Rattle.placement.specs.Scanned.{advanced};
 ghost use Rattle.placement_rows.specs.Compactable.{Compactable, compactedTable, layout};
-ghost use Rattle.placement_rows.specs.IndexTable.{Indexed};
 ghost use Rattle.placement_rows.specs.OnePass.{runOf, Copyable, Scannable, Tabled, met, scan};
 
 // The write position, and the end of what was read.
@@ -262,15 +261,43 @@ fn compact_whole(
 {
     let places = start_free_region / base;
     if places <= 256 {
-        return compact_256(store, location, dimensions, base, rotation, start_free_region);
+        return compact_256(
+            store,
+            location,
+            dimensions,
+            base,
+            rotation,
+            start_free_region,
+        );
     }
     if places <= 1024 {
-        return compact_1024(store, location, dimensions, base, rotation, start_free_region);
+        return compact_1024(
+            store,
+            location,
+            dimensions,
+            base,
+            rotation,
+            start_free_region,
+        );
     }
     if places <= 4096 {
-        return compact_4096(store, location, dimensions, base, rotation, start_free_region);
+        return compact_4096(
+            store,
+            location,
+            dimensions,
+            base,
+            rotation,
+            start_free_region,
+        );
     }
-    compact_16384(store, location, dimensions, base, rotation, start_free_region)
+    compact_16384(
+        store,
+        location,
+        dimensions,
+        base,
+        rotation,
+        start_free_region,
+    )
 }
 
 // Answers the new free start. Only the first `table_length` entries of the table are points.

@@ -4,7 +4,7 @@ use terms::FloatBits;
 ghost use mathlib.Core.Path.{_≡_};
 ghost use Prim.Native.Nat.{_+_, _*_, _≤_, _<_};
 ghost use lib.ListN.{length};
-ghost use Rattle.placement.specs.Copying.{turn, copied};
+ghost use Rattle.placement.specs.Copying.{turn, turned, copied};
 
 fn turned_by(rotation: bool, dimensions: usize, base: usize, place: usize) -> usize
     requires { ⌜ (0 < dimensions) × (place * base < 18446744073709551616) ⌝ }
@@ -16,7 +16,15 @@ fn turned_by(rotation: bool, dimensions: usize, base: usize, place: usize) -> us
     0
 }
 
-// Two straight copies: the last stored words come first.
+// The row's last words come first: two straight copies.
+fn copy_turned(row: &[FloatBits], out: &mut [FloatBits], last: usize, others: usize)
+    requires { ⌜ (length (now row) ≡ last + others) × (length (now out) ≡ last + others) ⌝ }
+    ensures { λ _. ⌜ now (out .exit) ≡ turned (last + others) last (now (row .entry)) ⌝ }
+{
+    copy_from(out, 0, &row[others..]);
+    copy_from(out, last, &row[..others]);
+}
+
 pub fn copy(
     store: &[FloatBits],
     out: &mut [FloatBits],
@@ -29,9 +37,8 @@ pub fn copy(
     ensures { λ _. ⌜ now (out .exit) ≡ copied rotation dimensions base place (now (store .entry)) ⌝ }
 {
     let t = turned_by(rotation, dimensions, base, place);
+    let others = dimensions - t;
     let start = place * base;
-    let middle = start + (dimensions - t);
     let end = start + dimensions;
-    copy_from(out, 0, &store[middle..end]);
-    copy_from(out, t, &store[start..middle]);
+    copy_turned(&store[start..end], out, t, others);
 }

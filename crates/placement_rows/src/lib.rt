@@ -13,6 +13,7 @@ mod words;
 
 pub use compaction::compact;
 pub use copying::copy;
+pub use growth::fill_table;
 pub use growth::grow_store;
 pub use growth::grow_table;
 pub use growth::grown_length;
@@ -23,7 +24,6 @@ pub use overlap::row_joins;
 pub use rows::head;
 pub use rows::move_window;
 pub use rows::row;
-pub use growth::fill_table;
 pub use words::fill;
 
 // The place of an index that has no point, and the index of a place where none stands.

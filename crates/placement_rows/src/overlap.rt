@@ -31,9 +31,24 @@ pub fn ready_to_copy(
 }
 
 // The same test while the window is not moved yet, of the row that is to be laid.
-pub fn row_joins<'a>(store: &[FloatBits], window: &'a [FloatBits], point: &'a [FloatBits], internal: bool, shingle_size: usize, base: usize, extra: usize, start_free_region: usize) -> bool
+pub fn row_joins<'a>(
+    store: &[FloatBits],
+    window: &'a [FloatBits],
+    point: &'a [FloatBits],
+    internal: bool,
+    shingle_size: usize,
+    base: usize,
+    extra: usize,
+    start_free_region: usize,
+) -> bool
     requires { ⌜ (base + extra ≤ length (rowToLay internal (now window) (now point))) × («start_free_region» ≤ length (now store)) ⌝ }
     ensures { λ r. ⌜ r ≡ overlaps wordsEqual «shingle_size» extra «start_free_region» (now (store .entry)) (rowToLay internal (movedWindow base (take (base + extra) (now (window .entry))) (now (point .entry))) (now (point .entry))) ⌝ }
 {
-    ready_to_copy(store, head(window, point, internal, base, extra), shingle_size, extra, start_free_region)
+    ready_to_copy(
+        store,
+        head(window, point, internal, base, extra),
+        shingle_size,
+        extra,
+        start_free_region,
+    )
 }

@@ -53,6 +53,7 @@ same-length-8 c = c .before .before .before .before .compact-16384 .kept .1 .0
 
 returns-4 : tie.Need-returns-4
 returns-4 c = c .before .before .before .before .compact-16384 .ensures
+
 pub compact-whole-spec : {M : Type 1} → statement M
 compact-whole-spec =
     tie.close

@@ -1,7 +1,8 @@
 -- The zeros are filled in, then the words copied, and the place is set.
-use lib.ListN.{length}
-use Rattle.placement_rows.proofs.OneRun.{place-fits, run-copied}
+use native.Mathlib.Nat.{lt-of-le-of-lt, div-le-self}
+use Rattle.placement_rows.proofs.OneRun.{run-copied}
 use borrow.Author.Needs.{needs}
+use native.Mathlib.Omega.{arith}
 use Rattle.placement_rows.proofs.compaction.copy_run.Statement.{statement}
 use Rattle.placement_rows.proofs.compaction.copy_run.Tie as tie
 
@@ -30,10 +31,7 @@ div-location : tie.Need-div-location
 div-location c = search needs
 
 cast-location : tie.Need-cast-location
-cast-location c =
-    let start = c .before .before .before .before .before .before .before .before .before .before .before .before in
-    let a = start .args in
-    record { fits = place-fits (a .dimensions) (a .base) (a .run) (a .end) (a .index) (a .done) (length (a .store .now)) (length (a .location .now)) (start .pre) }
+cast-location c = record { fits = lt-of-le-of-lt (div-le-self _ _) (omega (arith, c .before .before .before .before .before .before .before .before .before .before .before .before .pre)) }
 
 mul-location : tie.Need-mul-location
 mul-location c = search needs

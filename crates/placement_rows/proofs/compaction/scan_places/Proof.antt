@@ -1,8 +1,7 @@
 -- The loop's invariant: what was scanned is what the definition leaves of the places before `place`.
-use Prim.Native.Nat.{_+_, _-_, _/_, _≤_}
+use Prim.Native.Nat.{_-_, _/_, _≤_}
 use mathlib.Core.Logic.{⊎-elim}
 use mathlib.Core.Path.{_≡_, ap, _∙_}
-use lib.ListN.{getD}
 use Rattle.placement.specs.Scanned.{scanned}
 use Rattle.placement_rows.specs.OnePass.{scan}
 use Rattle.placement_rows.proofs.OneRun.{scan-same}

@@ -1,8 +1,8 @@
 -- The run is the definition's, and so is what its copy leaves.
-use mathlib.Core.Path.{_≡_, ap, subst, sym, _∙_}
-use Prim.Native.Nat.{ℕ, _+_, _*_}
+use mathlib.Core.Path.{ap, subst, sym, _∙_}
+use Prim.Native.Nat.{_+_, _*_}
 use lib.ListN.{length}
-use Rattle.placement.specs.Scanned.{Scanned, advanced}
+use Rattle.placement.specs.Scanned.{advanced}
 use Rattle.placement_rows.specs.OnePass.{scan, met, Copyable}
 use Rattle.placement_rows.specs.declared.compaction.Run.{Run}
 use borrow.Author.Needs.{needs}

@@ -1,10 +1,6 @@
--- Two runs make up the copy.
-use mathlib.Core.Path.{_≡_, ap, _∙_}
-use Prim.Native.Nat.{ℕ, _*_}
+-- The row at the place is turned by its turn.
 use lib.ListN.{length-take, length-drop}
-use Rattle.placement.specs.Copying.{copied, turned}
-use Rattle.placement.specs.Row.{piece}
-use Rattle.placement_rows.proofs.Runs.{turn-within, turned-copied}
+use Rattle.placement_rows.proofs.Runs.{turn-within, copy-turned}
 use borrow.Author.Needs.{needs}
 use native.Mathlib.Omega.{arith}
 use Rattle.placement_rows.proofs.copying.copy.Statement.{statement}
@@ -13,86 +9,63 @@ use Rattle.placement_rows.proofs.copying.copy.Tie as tie
 turned-by-requires : tie.Need-turned-by-requires
 turned-by-requires c κs = search needs
 
+sub-others : tie.Need-sub-others
+sub-others c =
+    let start = c .before .before .before in
+    let a = start .args in
+    let turn = c .turned-by in
+    let small = turn-within (a .rotation) (a .dimensions) (a .base) (a .place) (turn .result) (start .pre .0) (turn .ensures) in
+    small
+
 mul-start : tie.Need-mul-start
 mul-start c = search needs
-
-sub-middle : tie.Need-sub-middle
-sub-middle c =
-    let a = c .before .before .before .args in
-    turn-within (a .rotation) (a .dimensions) (a .base) (a .place) (c .turned-by .result) (c .before .before .before .pre .0) (c .turned-by .ensures)
-
-add-middle : tie.Need-add-middle
-add-middle c = search needs
 
 add-end : tie.Need-add-end
 add-end c = search needs
 
-mul-copy-from : tie.Need-mul-copy-from
-mul-copy-from c = search needs
+mul-copy-turned : tie.Need-mul-copy-turned
+mul-copy-turned c = search needs
 
-sub-copy-from : tie.Need-sub-copy-from
-sub-copy-from c = search needs
+sub-copy-turned : tie.Need-sub-copy-turned
+sub-copy-turned c = search needs
 
-part-copy-from-start : tie.Need-part-copy-from-start
-part-copy-from-start c = search needs
+part-copy-turned-start : tie.Need-part-copy-turned-start
+part-copy-turned-start c = search needs
 
-part-copy-from-end : tie.Need-part-copy-from-end
-part-copy-from-end c = search needs
+part-copy-turned-end : tie.Need-part-copy-turned-end
+part-copy-turned-end c = search needs
 
-copy-from-requires : tie.Need-copy-from-requires
-copy-from-requires c κs = search needs
-
-mul-copy-from-2 : tie.Need-mul-copy-from-2
-mul-copy-from-2 c = search needs
-
-sub-copy-from-2 : tie.Need-sub-copy-from-2
-sub-copy-from-2 c = search needs
-
-part-copy-from-start-2 : tie.Need-part-copy-from-start-2
-part-copy-from-start-2 c = search needs
-
-part-copy-from-end-2 : tie.Need-part-copy-from-end-2
-part-copy-from-end-2 c = search needs
-
-copy-from-requires-2 : tie.Need-copy-from-requires-2
-copy-from-requires-2 c κs =
-    let start = c .before .before .before .before .before .before .before .before .before .before in
+copy-turned-requires : tie.Need-copy-turned-requires
+copy-turned-requires c κs =
+    let start = c .before .before .before .before .before in
     let a = start .args in
-    let turn = c .before .before .before .before .before .before .before .turned-by in
+    let turn = c .before .before .turned-by in
     let small = turn-within (a .rotation) (a .dimensions) (a .base) (a .place) (turn .result) (start .pre .0) (turn .ensures) in
-    simp (length-take, length-drop) (omega (arith, c .before .before .before .before .copy-from .kept .0, start .pre))
+    (simp (length-take, length-drop) (omega (arith, start .pre)), omega (arith, start .pre))
 
 same-length : tie.Need-same-length
 same-length c = search needs
 
 returns : tie.Need-returns
-unfolding copied
 returns c =
-    let start = c .before .before .before .before .before .before .before .before .before .before .before .before .before in
+    let start = c .before .before .before .before .before .before .before .before in
     let a = start .args in
-    let turn = c .before .before .before .before .before .before .before .before .before .before .turned-by in
+    let turn = c .before .before .before .before .before .turned-by in
     let small = turn-within (a .rotation) (a .dimensions) (a .base) (a .place) (turn .result) (start .pre .0) (turn .ensures) in
-    c .before .before .copy-from2 .ensures
-    ∙ turned-copied (a .dimensions) (turn .result) (a .place * a .base) (a .store .now) (a .out .now) (c .before .before .before .before .before .before .before .copy-from .last .0) small (start .pre .1) (start .pre .2) (c .before .before .before .before .before .before .before .copy-from .ensures)
-    ∙ ap (λ (t : ℕ). turned (a .dimensions) t (piece (a .place * a .base) (a .dimensions) (a .store .now))) (turn .ensures)
+    copy-turned (a .rotation) (a .dimensions) (a .base) (a .place) (turn .result) (a .store .now) (c .before .before .copy-turned .last .1 .0) small (turn .ensures) (c .before .before .copy-turned .ensures)
+
 pub copy-spec : {M : Type 1} → statement M
 copy-spec =
     tie.close
     (tie.spec
     turned-by-requires
+    sub-others
     mul-start
-    sub-middle
-    add-middle
     add-end
-    mul-copy-from
-    sub-copy-from
-    part-copy-from-start
-    part-copy-from-end
-    copy-from-requires
-    mul-copy-from-2
-    sub-copy-from-2
-    part-copy-from-start-2
-    part-copy-from-end-2
-    copy-from-requires-2
+    mul-copy-turned
+    sub-copy-turned
+    part-copy-turned-start
+    part-copy-turned-end
+    copy-turned-requires
     same-length
     returns)

@@ -19,5 +19,6 @@ returns c = ⊎-elim (λ w. omega arith) (λ w. omega arith) (c .before .before 
 returns-2 : tie.Need-returns-2
 unfolding grown
 returns-2 c = ⊎-elim (λ w. omega arith) (λ w. omega arith) (c .before .if1 .came)
+
 pub grown-length-spec : {M : Type 1} → statement M
 grown-length-spec = tie.close (tie.spec sub-if2 add-result returns returns-2)

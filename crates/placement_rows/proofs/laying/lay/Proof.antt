@@ -69,6 +69,7 @@ returns-2 c =
     let a = c .before .before .before .before .before .before .before .args in
     let pre = c .before .before .before .before .before .before .before .pre in
     rw (c .before .before .before .before .if1 .left) (c .before .before .copy-from2 .ensures ∙ laid-whole (a .dimensions) (a .base) (a .start-free-region) (a .store .now) (a .row .now) (pre .whole), (refl, refl))
+
 pub lay-spec : {M : Type 1} → statement M
 lay-spec =
     tie.close

@@ -47,6 +47,7 @@ returns-3 c =
     let n : f - (f - a .extra) ≡ a .extra = omega arith in
     rw (lt-ltb _ _ (c .before .before .before .before .if1 .left), lt-ltb _ _ (c .before .before .before .if2 .left))
     (c .rows-equal .ensures ∙ ap (λ (m : ℕ). rowsEqual (take m (drop (f - a .extra) (a .store .now))) (take (a .extra) (a .row .now))) n)
+
 pub ready-to-copy-spec : {M : Type 1} → statement M
 ready-to-copy-spec =
     tie.close

@@ -23,5 +23,6 @@ returns c =
     c .ready-to-copy .ensures
     ∙ ap (overlaps wordsEqual (a .shingle-size) (a .extra) (a .start-free-region) (a .store .now)) (c .before .head .ensures .0)
     ∙ overlaps-head wordsEqual (a .shingle-size) (a .extra) (a .start-free-region) (a .store .now) row
+
 pub row-joins-spec : {M : Type 1} → statement M
 row-joins-spec = tie.close (tie.spec head-requires ready-to-copy-requires returns)

@@ -50,6 +50,7 @@ unfolding rowToLay
 returns-2 c =
     let fits = rw (c .before .if1 .left) at (c .before .before .pre) in
     rw (c .before .if1 .left) (refl, simp length-take (omega arith))
+
 pub head-spec : {M : Type 1} → statement M
 head-spec =
     tie.close

@@ -22,6 +22,7 @@ returns c =
     let a = c .before .before .before .before .before .before .before .before .before .before .args in
     let pre = c .before .before .before .before .before .before .before .before .before .before .pre in
     c .before .before .copy-from .ensures ∙ window-moved (a .dimensions) (a .window .now) (c .before .before .before .before .before .before .copy-down .last .0) (a .point .now) (pre .0) (pre .1) (c .before .before .before .before .before .before .copy-down .ensures)
+
 pub move-window-spec : {M : Type 1} → statement M
 move-window-spec =
     tie.close (tie.spec sub-extra copy-down-requires copy-from-requires same-length returns)
