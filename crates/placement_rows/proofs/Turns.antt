@@ -1,12 +1,12 @@
 -- One turn of a loop that writes a run of a list: filled, pasted from another list, or copied down within the list.
-use mathlib.Core.List.{List}
-use mathlib.Core.Path.{_≡_, ap, _∙_}
+use mathlib.Core.List.{List, _++_}
+use mathlib.Core.Path.{_≡_, sym, ap, _∙_}
 use Prim.Native.Nat.{ℕ, suc, _+_, _-_, _≤_, _<_}
 use native.Mathlib.Nat.{sub-self}
 use native.Mathlib.Numerals.{add-one}
 use native.Mathlib.Omega.{arith}
-use lib.ListN.{length, getD, set, replicate}
-use lib.Seq.{paste, paste-zero, paste-suc}
+use lib.ListN.{length, drop, getD, set, replicate, take-append-drop}
+use lib.Seq.{paste, paste-zero, paste-suc, take-add}
 use Rattle.placement.specs.InPlace.{copiedWithin, filled, copy-turn, fill-turn}
 
 module _ {E : Type 0} where
@@ -33,3 +33,11 @@ module _ {E : Type 0} where
       → set l (at + i) (getD l (from + i) d) ≡ copiedWithin at from (i + 1) now
   copy-next at from count i now l d behind inside h e =
       ap (λ (t : List E). set t (at + i) (getD t (from + i) d)) e ∙ rw (add-one i) (copy-turn at from i now d behind (omega arith))
+
+  -- a copy to where it came from changes nothing
+  pub copy-still : (at from n : ℕ) (l : List E) → at ≡ from → l ≡ copiedWithin at from n l
+  copy-still at from n l e =
+      sym
+      (ap (λ (m : ℕ). copiedWithin at m n l) (sym e)
+      ∙ ap (λ (t : List E). t ++ drop (at + n) l) (sym (take-add at n l))
+      ∙ take-append-drop (at + n) l)

@@ -29,11 +29,14 @@ pub fn copy_from(words: &mut [FloatBits], at: usize, from: &[FloatBits])
     }
 }
 
-// Each word is read before the one that stands further up is written.
+// No word is read after another was written over it. Where nothing moves there is nothing to do.
 pub fn copy_down(words: &mut [FloatBits], at: usize, from: usize, count: usize)
     requires { ⌜ (at ≤ from) × (from + count ≤ length (now words)) ⌝ }
     ensures { λ _. ⌜ now (words .exit) ≡ copiedWithin at from count (now (words .entry)) ⌝ }
 {
+    if at == from {
+        return;
+    }
     let mut i = 0;
     while i < count {
         words[at + i] = words[from + i];

@@ -4,7 +4,7 @@ use mathlib.Core.Path.{_≡_, _∙_}
 use lib.ListN.{length, drop, length-set}
 use lib.Seq.{paste-zero}
 use Rattle.placement.specs.InPlace.{copiedWithin}
-use Rattle.placement_rows.proofs.Turns.{copy-next}
+use Rattle.placement_rows.proofs.Turns.{copy-next, copy-still}
 use borrow.Author.Needs.{needs}
 use native.Mathlib.Omega.{arith}
 use Rattle.placement_rows.proofs.words.copy_down.Statement.{statement}
@@ -16,8 +16,15 @@ Inv-loop words₀ at from count i₀ words i = (i ≤ count) × (length words �
 abbrev μ-loop : tie.MeasureT-loop
 μ-loop words₀ at from count i₀ words i = count - i
 
+returns : tie.Need-returns Inv-loop μ-loop
+returns c =
+    let a = c .before .args in
+    copy-still (a .at) (a .from) (a .count) (a .words .now) (c .if1 .taken)
+
 loop-holds : tie.Need-loop-holds Inv-loop μ-loop
-loop-holds c = (search needs, search needs, paste-zero (c .args .words .now) (c .args .at) (drop (c .args .from) (c .args .words .now)))
+loop-holds c =
+    let a = c .before .args in
+    (search needs, search needs, paste-zero (a .words .now) (a .at) (drop (a .from) (a .words .now)))
 
 add-words : tie.Need-add-words Inv-loop μ-loop
 add-words c = search needs
@@ -46,17 +53,17 @@ loop-less c = search needs
 loop-again : tie.Need-loop-again Inv-loop μ-loop
 loop-again c =
     let at = c .before .before in
-    let a = at .before .args in
+    let a = at .before .before .args in
     let inv = at .loop .inv in
     (search needs, simp length-set (inv .1), copy-next (a .at) (a .from) (a .count) (at .loop .i) (a .words .now) (at .loop .words) 0 (omega arith) (omega arith) (omega arith) (inv .2))
 
 same-length : tie.Need-same-length Inv-loop μ-loop
 same-length c = c .before .loop .inv .1
 
-returns : tie.Need-returns Inv-loop μ-loop
-returns c =
+returns-2 : tie.Need-returns-2 Inv-loop μ-loop
+returns-2 c =
     let at = c .before in
-    let a = at .before .args in
+    let a = at .before .before .args in
     let done : at .loop .i ≡ a .count = omega arith in
     at .loop .inv .2 ∙ rw done
 
@@ -66,6 +73,7 @@ copy-down-spec =
     (tie.spec
     Inv-loop
     μ-loop
+    returns
     loop-holds
     add-words
     mul-words
@@ -77,4 +85,4 @@ copy-down-spec =
     loop-less
     loop-again
     same-length
-    returns)
+    returns-2)
