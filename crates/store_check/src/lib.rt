@@ -15,8 +15,8 @@ mod table;
 
 pub use bounds::bounds_hold;
 pub use bounds::free_start_well;
+use label_check::labels_well_formed;
 use labels::LabelManagers;
-use labels::labels_well_formed;
 use labels::reason_classes;
 use record::Lengths;
 use record::record_well;
