@@ -19,8 +19,8 @@ use Rattle.placement.specs.Steps.{steps}
 use Rattle.placement_rows.specs.Compactable.{layout}
 use Rattle.placement_rows.specs.IndexTable.{found-none, found-live, found-at}
 use Rattle.placement_rows.specs.OnePass.{scan, runOf, met, Copyable, Scannable}
-use Rattle.placement_rows.specs.declared.compaction.Progress.{Progress}
-use Rattle.placement_rows.specs.declared.compaction.Run.{Run}
+use Rattle.placement_rows.specs.declared.one_pass.Progress.{Progress}
+use Rattle.placement_rows.specs.declared.one_pass.Run.{Run}
 
 module _ (dims base : ℕ) (rotation : Bool) (elements location table : List ℕ) (free : ℕ) (pre : Scannable dims base location table free (length elements)) where
   abbrev at : ℕ → Scanned ℕ
