@@ -1,16 +1,16 @@
 -- Compaction of a store that is known to be well-formed.
-use Prim.Native.Nat.{ℕ, _*_, _/_, _≤_, _<_}
+use Prim.Native.Nat.{ℕ, _≤_}
 use native.Mathlib.Nat.{div-le-self}
 use native.Mathlib.Omega.{arith}
 use mathlib.Core.List.{List}
 use mathlib.Core.Bool.{true, false}
-use mathlib.Core.Path.{_≡_, refl, sym, _∙_, ap}
+use mathlib.Core.Path.{_≡_, ap}
 use lib.ListN.{length, take}
 use lib.Seq.{length-take-le}
 use Rattle.placement.specs.Compaction.{Layout}
-use Rattle.placement_rows.specs.Compactable.{Compactable, layout, compactedTable}
+use Rattle.placement_rows.specs.Compactable.{Compactable, compactedTable}
 use Rattle.store_definitions.specs.declared.Store.{Store}
-use Rattle.store_definitions.specs.Memory.{Memory, PointStore, pointStore}
+use Rattle.store_definitions.specs.Memory.{PointStore}
 use Rattle.store_definitions.specs.Answers.{done, refused, outcome}
 use Rattle.store_definitions.specs.Parts.{baseOf, tableLength, Rows, rowsOf, withRows}
 use Rattle.store_definitions.specs.Decisions.{formDecided}
@@ -18,7 +18,7 @@ use Rattle.store_definitions.specs.Rows.{compactedRows, compactSpec}
 use Rattle.store_definitions.specs.WellFormed.{wellFormed}
 use Rattle.store_laws.specs.BoundsLaws.{InBounds}
 use Rattle.store_laws.specs.RowsLaws.{RowsOf}
-use Rattle.store_laws.specs.Sound.{Sound, sound}
+use Rattle.store_laws.specs.Sound.{sound}
 
 abbrev pub rows : List ℕ → List ℕ → (free storeLength : ℕ) → Rows ℕ
 rows elements location free storeLength = record { elements = elements; location = location; free = free; storeLength = storeLength }

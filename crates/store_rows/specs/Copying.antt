@@ -2,8 +2,8 @@
 use Prim.Native.Nat.{ℕ, _+_, _*_, _≤_, _<_}
 use native.Mathlib.Omega.{arith}
 use mathlib.Core.List.{List}
-use mathlib.Core.Bool.{Bool, true, false, cond, not, _&&_}
-use mathlib.Core.Path.{_≡_, refl, sym, _∙_, ap, subst}
+use mathlib.Core.Bool.{true, false, cond, not, _&&_}
+use mathlib.Core.Path.{_≡_, sym, _∙_, ap, subst}
 use lib.ListN.{length, getD}
 use lib.Seq.{drop-cons}
 use lib.Dec.{ltb, eqb}
@@ -11,13 +11,13 @@ use borrow.Author.Tests.{lt-ltb, le-ltb, eq-eqb, ne-eqb}
 use Rattle.interval_store_manager.specs.Calls.{Decided, go, refuse}
 use Rattle.placement.specs.Copying.{copied}
 use Rattle.store_definitions.specs.declared.Store.{Store}
-use Rattle.store_definitions.specs.Memory.{Memory, PointStore, pointStore}
+use Rattle.store_definitions.specs.Memory.{PointStore}
 use Rattle.store_definitions.specs.Answers.{done, refused, Output, output}
 use Rattle.store_definitions.specs.Parts.{baseOf, tableLength}
 use Rattle.store_definitions.specs.Decisions.{andThen, refuseIf, formDecided, live, touchDecided, writes}
 use Rattle.store_definitions.specs.Rows.{copyOf, copyDecided, copySpec}
 use Rattle.store_definitions.specs.WellFormed.{wellFormed}
-use Rattle.store_laws.specs.Sound.{Sound, sound, place-ends}
+use Rattle.store_laws.specs.Sound.{sound, place-ends}
 
 -- what a copy relies on: entries for every index of the table, and each counted point within the floats
 pub record Readable (s : Store) (floats : ℕ) (counts location : List ℕ) : Type 0 where
