@@ -1,4 +1,5 @@
 pub mod BoundsLaws
+pub mod LentLaws
 pub mod PlacesLaws
 pub mod Sound
 pub mod DecisionLaws
