@@ -10,3 +10,4 @@ pub mod CountingLaws
 pub mod TableLaws
 pub mod LaidLaws
 pub mod AddingLaws
+pub mod OpeningLaws
