@@ -12,3 +12,4 @@ pub mod LaidLaws
 pub mod AddingLaws
 pub mod OpeningLaws
 pub mod AdjustLaws
+pub mod RefusalLaws
