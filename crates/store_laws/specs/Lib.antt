@@ -13,3 +13,4 @@ pub mod AddingLaws
 pub mod OpeningLaws
 pub mod AdjustLaws
 pub mod RefusalLaws
+pub mod FormLaws

@@ -78,7 +78,7 @@ module _ {E : Type 0} (eq : E → E → Bool) (zeroElement : E) (p : PointStore 
   r = roomMade zeroElement (p .header) (rowsOf p)
 
   -- an add that is decided to be kept is refused only with 10, and then the rows alone are changed, as room was made
-  keeps-refused : (n : ℕ) → keeps eq zeroElement p point code .answer ≡ refused n → (n ≡ 10) × (keeps eq zeroElement p point code .after ≡ withRows r p)
+  pub keeps-refused : (n : ℕ) → keeps eq zeroElement p point code .answer ≡ refused n → (n ≡ 10) × (keeps eq zeroElement p point code .after ≡ withRows r p)
   unfolding keeps
   keeps-refused n e = choose (overflows eq (p .header) r (rowOf p point)) e
     where
