@@ -57,7 +57,7 @@ module _ {E : Type 0} (c : ℕ) (m : Memory E) where
         slot-ends-lent = leb-true c (length (m .attributeEnds)) (p8 .1);
       }
 
-  labels-are-lent-make : LabelsLent c m → labelsLent c m ≡ true
+  pub labels-are-lent-make : LabelsLent c m → labelsLent c m ≡ true
   unfolding labelsLent
   labels-are-lent-make l =
       and-make _ _ (le-leb c (length (m .labels)) (l .codes-lent))

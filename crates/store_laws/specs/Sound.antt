@@ -21,11 +21,11 @@ use Rattle.labels.specs.Sound.{Sound as LabelsSound, sound as labels-sound, sou
 use Rattle.store_definitions.specs.declared.Store.{Store}
 use Rattle.store_definitions.specs.Memory.{Memory, PointStore}
 use Rattle.store_definitions.specs.Parts.{baseOf, tableLength, Rows, rowsOf, pointTable, labelHalf}
-use Rattle.store_definitions.specs.Bounds.{rotationAllowed}
+use Rattle.store_definitions.specs.Bounds.{rotationAllowed, labelsLent}
 use Rattle.store_definitions.specs.WellFormed.{classTable, freeStartWell, pointsWell, wellFormed}
 use Rattle.store_laws.specs.Cases.{asked, asked-make}
 use Rattle.store_laws.specs.BoundsLaws.{InBounds, in-bounds, in-bounds-make, shaped}
-use Rattle.store_laws.specs.LentLaws.{PointsLent, LabelsLent, lent, lent-make}
+use Rattle.store_laws.specs.LentLaws.{PointsLent, LabelsLent, labels-are-lent-make, lent, lent-make}
 use Rattle.store_laws.specs.PlacesLaws.{live-make, distinct, distinct-make, ends, ends-make}
 
 -- rows of a shape, of which the first n places are in use
@@ -85,6 +85,9 @@ module _ {E : Type 0} where
         slot-starts-lent = b .0;
         slot-ends-lent = b .1;
       }
+
+  pub labels-lent-make : (c : ℕ) (p : PointStore E) → LabelsSound classTable c (labelHalf p) → labelsLent c (p .memory) ≡ true
+  labels-lent-make c p l = labels-are-lent-make c (p .memory) (labels-lent-of c p l)
 
   module _ (p : PointStore E) where
     abbrev s : Store
