@@ -1,6 +1,6 @@
 -- A store's well-formedness as a record of named facts. Its rows stand apart: compaction and growth change them alone.
 use Prim.Native.Nat.{ℕ, _+_, _*_, _%_, _≤_, _<_, _∣_}
-use native.Mathlib.Nat.{dvd-of-mod-eq-zero, mod-eq-zero-of-dvd}
+use native.Mathlib.Nat.{le-trans, dvd-of-mod-eq-zero, mod-eq-zero-of-dvd}
 use native.Mathlib.Decide.{ℕ-discrete}
 use native.Mathlib.Omega.{arith}
 use mathlib.Core.Bool.{Bool, true, _||_, Bool·beq, or-true}
@@ -50,6 +50,10 @@ started free dims e =
 started-make : (free dims : ℕ) → (free ≡ 0) ⊎ (dims ≤ free) → (eqb free 0 || leb dims free) ≡ true
 started-make free dims (inl q) = rw (eq-eqb free 0 q)
 started-make free dims (inr l) = rw (le-leb dims free l) (or-true (eqb free 0))
+
+-- the free start is far below the empty place, and in the lent floats
+free-small : (dims shingle capacity free stored lent : ℕ) → InBounds dims shingle capacity → free ≤ stored → stored ≤ capacity * dims → capacity * dims ≤ lent → (free + dims ≤ 65535) × (free ≤ lent)
+free-small dims shingle capacity free stored lent b h g l = (omega (arith, b .dims-most, b .floats-most), omega arith)
 
 -- a table's stack has an entry for each index
 stacks-lent : (c : ℕ) (t : Counted) → WellCounted c t → (c ≤ length (t .starts)) × (c ≤ length (t .ends))
@@ -124,6 +128,7 @@ module _ {E : Type 0} where
         let table : n ≤ s .capacity = leb-true n (s .capacity) (p4 .0) in
         let within : s .«store_length» ≤ s .capacity * s .dimensions = leb-true (s .«store_length») (s .capacity * s .dimensions) (p5 .0) in
         let inside : s .«start_free_region» ≤ s .«store_length» = leb-true (s .«start_free_region») (s .«store_length») (f2 .1) in
+        let small = free-small (s .dimensions) (s .«shingle_size») (s .capacity) (s .«start_free_region») (s .«store_length») (length (m .store)) b inside within floats in
         record {
           bounds = b;
           rotation = p2 .0;
@@ -138,11 +143,11 @@ module _ {E : Type 0} where
             free-inside = inside;
             well-placed = record {
               shaped = shaped (s .dimensions) (s .«shingle_size») (s .capacity) b;
-              small = omega (arith, b .dims-most, b .floats-most);
-              inside = omega arith;
-              ends = ends n (m .location) (omega arith) s (q3 .1);
+              small = small .0;
+              inside = small .1;
+              ends = ends n (m .location) (le-trans table places) s (q3 .1);
             };
-            distinct-places = distinct n (m .location) (omega arith) (q3 .0);
+            distinct-places = distinct n (m .location) (le-trans table places) (q3 .0);
           };
           points = well-counted n (pointTable p) (q1 .0);
           empty-is = λ i h.
