@@ -9,8 +9,8 @@ use Rattle.placement.specs.AlignmentLaws.{wrapping-sub}
 use Rattle.placement.specs.InPlace.{copiedWithin, filled}
 use Rattle.placement.specs.Scanned.{advanced}
 use Rattle.placement_rows.specs.OnePass.{scan}
-use Rattle.placement_rows.specs.declared.compaction.Progress.{Progress}
-use Rattle.placement_rows.specs.declared.compaction.Run.{Run}
+use Rattle.placement_rows.specs.declared.one_pass.Progress.{Progress}
+use Rattle.placement_rows.specs.declared.one_pass.Run.{Run}
 
 -- d is the wrapping difference, and s its wrapping sum with the start
 pub wrapped : (dims free start d s : ℕ) → dims < 2 ^ 64 → free < 2 ^ 64 → d < 2 ^ 64 → (d + free) % 2 ^ 64 ≡ dims → s ≡ (d + start) % 2 ^ 64 → s % dims ≡ alignment dims free start
@@ -29,6 +29,3 @@ module _ (dims base : ℕ) (run : Run) (end i : ℕ) (done : Progress) where
       let n : done .free + run .zeros - done .free ≡ run .zeros = omega arith in
       ap (λ (l : List ℕ). scan l (set location i ((free - dims) / base)) (record { free = free; read = end }))
       (f ∙ ap (copiedWithin (done .free + run .zeros) (run .from) (end - run .from)) (e ∙ ap (λ (m : ℕ). filled 0 (done .free) m store) n))
-
-pub scan-same : {e e′ l l′ : List ℕ} {p p′ : Progress} → e ≡ e′ → l ≡ l′ → p ≡ p′ → scan e l p ≡ scan e′ l′ p′
-scan-same e l p = λ k. scan (e k) (l k) (p k)

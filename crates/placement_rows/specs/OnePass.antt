@@ -9,8 +9,8 @@ use Rattle.placement.specs.Alignment.{zerosBefore}
 use Rattle.placement.specs.Scanned.{Scanned, advanced}
 use Rattle.placement_rows.specs.Compactable.{Compactable}
 use Rattle.placement_rows.specs.IndexTable.{Indexed}
-use Rattle.placement_rows.specs.declared.compaction.Progress.{Progress}
-use Rattle.placement_rows.specs.declared.compaction.Run.{Run}
+use Rattle.placement_rows.specs.declared.one_pass.Progress.{Progress}
+use Rattle.placement_rows.specs.declared.one_pass.Run.{Run}
 
 abbrev pub scan : List ℕ → List ℕ → Progress → Scanned ℕ
 scan elements location p = record { elements = elements; location = location; free = p .free; read = p .read }
