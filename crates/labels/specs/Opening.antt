@@ -9,7 +9,7 @@ use borrow.Author.Tests.{eq-eqb}
 use Rattle.terms.specs.Below.{sum-same, sum-zeros}
 use Rattle.interval_store_manager.specs.Calls.{manager}
 use Rattle.interval_store_manager.specs.ChangeLaws.{new-well-formed, new-free}
-use Rattle.labels.specs.Counted.{Counted, counted, countAt}
+use Rattle.labels.specs.Counted.{Counted, counted}
 use Rattle.labels.specs.CountedLaws.{WellCounted}
 use Rattle.labels.specs.Labels.{Labels, labelCountAt, slotCountAt, slotSum}
 use Rattle.labels.specs.Sound.{Sound}
