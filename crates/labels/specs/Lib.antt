@@ -8,7 +8,6 @@ pub mod CountLaws
 pub mod TakeSlotLaws
 pub mod TakeLaws
 pub mod Opening
-pub mod OpeningLaws
 pub mod Decisions
 pub mod Readings
 pub mod ReadingLaws

@@ -5,7 +5,6 @@ mod classes;
 mod count;
 mod decide;
 mod entry;
-mod open;
 mod read;
 mod take;
 
@@ -20,7 +19,6 @@ pub use decide::inc_decision;
 pub use decide::label_in_use;
 pub use decide::room_decision;
 use interval_store_manager::IntervalStoreManager;
-pub use open::open_labels;
 pub use read::attribute;
 pub use read::attribute_vec;
 pub use read::label;

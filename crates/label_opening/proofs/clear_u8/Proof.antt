@@ -1,14 +1,13 @@
 -- The invariant: the entries passed are 0, every other is as it was.
 use Prim.Native.Nat.{ℕ, _≤_, _-_}
 use native.Mathlib.Omega.{arith}
-use borrow.Author.Needs.{scaled-fits}
 use borrow.Author.Fill.{fill-none, fill-more}
 use mathlib.Core.List.{List}
 use mathlib.Core.Path.{_≡_, _∙_, ap}
 use lib.ListN.{length, set}
 use Rattle.labels.specs.Opening.{cleared, cleared-length}
-use Rattle.labels.proofs.open.clear_u32.Statement.{statement}
-use Rattle.labels.proofs.open.clear_u32.Tie as tie
+use Rattle.label_opening.proofs.clear_u8.Statement.{statement}
+use Rattle.label_opening.proofs.clear_u8.Tie as tie
 
 abbrev Inv-loop : tie.InvT-loop
 Inv-loop xs₀ n i₀ xs i = (i ≤ n) × (xs ≡ cleared i xs₀)
@@ -18,9 +17,6 @@ abbrev μ-loop : tie.MeasureT-loop
 
 loop-holds : tie.Need-loop-holds Inv-loop μ-loop
 loop-holds c = (omega arith, fill-none (c .args .xs .now) 0)
-
-mul-xs : tie.Need-mul-xs Inv-loop μ-loop
-mul-xs c = scaled-fits _ _ _ (omega arith) (c .before .before .good .0 .1)
 
 slice-write-xs : tie.Need-slice-write-xs Inv-loop μ-loop
 slice-write-xs c = omega (arith, ap length (c .before .loop .inv .1) ∙ cleared-length (c .before .loop .i) (c .before .before .args .xs .now) (omega arith))
@@ -43,14 +39,13 @@ same-length c = ap length (c .before .loop .inv .1) ∙ cleared-length (c .befor
 returns : tie.Need-returns Inv-loop μ-loop
 returns c = let e : c .before .loop .i ≡ c .before .before .args .n = omega arith in rw e at (c .before .loop .inv .1)
 
-pub clear-u32-spec : {M : Type 1} → statement M
-clear-u32-spec =
+pub clear-u8-spec : {M : Type 1} → statement M
+clear-u8-spec =
     tie.close
     (tie.spec
     Inv-loop
     μ-loop
     loop-holds
-    mul-xs
     slice-write-xs
     add-i
     loop-less

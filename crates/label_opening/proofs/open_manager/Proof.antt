@@ -1,8 +1,8 @@
 -- New accepts what may be opened, so that its refusal is never met.
 use borrow.Author.Needs.{needs}
-use Rattle.labels.specs.OpeningLaws.{not-refused}
-use Rattle.labels.proofs.open.open_manager.Statement.{statement}
-use Rattle.labels.proofs.open.open_manager.Tie as tie
+use Rattle.label_opening.specs.OpeningLaws.{not-refused}
+use Rattle.label_opening.proofs.open_manager.Statement.{statement}
+use Rattle.label_opening.proofs.open_manager.Tie as tie
 
 new-requires : tie.Need-new-requires
 new-requires c κs = search needs

@@ -6,9 +6,9 @@ use borrow.Author.Fill.{fill-none, fill-more}
 use mathlib.Core.List.{List}
 use mathlib.Core.Path.{_≡_, _∙_, ap}
 use lib.ListN.{length, set}
 use Rattle.labels.specs.Opening.{cleared, cleared-length}
-use Rattle.labels.proofs.open.clear_u16.Statement.{statement}
-use Rattle.labels.proofs.open.clear_u16.Tie as tie
+use Rattle.label_opening.proofs.clear_u16.Statement.{statement}
+use Rattle.label_opening.proofs.clear_u16.Tie as tie
 
 abbrev Inv-loop : tie.InvT-loop
 Inv-loop xs₀ n i₀ xs i = (i ≤ n) × (xs ≡ cleared i xs₀)

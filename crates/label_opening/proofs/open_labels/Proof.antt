@@ -1,9 +1,9 @@
 -- Each table is cleared, and each manager opened.
 use borrow.Author.Needs.{needs}
 use Rattle.labels.specs.Forms.{labelHalf}
-use Rattle.labels.specs.OpeningLaws.{table-is, opened-is}
-use Rattle.labels.proofs.open.open_labels.Statement.{statement}
-use Rattle.labels.proofs.open.open_labels.Tie as tie
+use Rattle.label_opening.specs.OpeningLaws.{table-is, opened-is}
+use Rattle.label_opening.proofs.open_labels.Statement.{statement}
+use Rattle.label_opening.proofs.open_labels.Tie as tie
 
 clear-u8-requires : tie.Need-clear-u8-requires
 clear-u8-requires c κs = search needs

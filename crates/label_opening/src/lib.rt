@@ -4,12 +4,12 @@ ghost use Prim.Native.Nat.{_≤_};
 ghost use lib.ListN.{length};
 ghost use Rattle.interval_store_manager.specs.Answers.{opened, opening};
 ghost use Rattle.interval_store_manager.specs.Calls.{newSpec};
 ghost use Rattle.labels.specs.Opening.{cleared, labelsOpened, Openable};
-ghost use Rattle.labels.specs.OpeningLaws.{LabelsOpenable};
+ghost use Rattle.label_opening.specs.OpeningLaws.{LabelsOpenable};
 ghost use Rattle.labels.specs.Forms.{entered, left};
-use crate::LabelManagers;
 use interval_store_manager::IntervalStoreManager;
 use interval_store_manager::Opened;
+use labels::LabelManagers;
 
 fn clear_u8(xs: &mut [u8], n: usize)
     requires { ⌜ n ≤ length (now xs) ⌝ }
