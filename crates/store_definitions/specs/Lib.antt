@@ -1,0 +1,16 @@
+pub mod Memory
+pub mod Parts
+pub mod Answers
+pub mod Bounds
+pub mod WellFormed
+pub mod Decisions
+pub mod Opening
+pub mod Counting
+pub mod Rows
+pub mod Adding
+pub mod Sums
+pub mod Preview
+pub mod IndexLists
+pub mod LabelReadings
+pub mod Lent
+pub mod WorkedWindows

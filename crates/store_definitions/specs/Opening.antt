@@ -1,0 +1,81 @@
+-- Document 01, 'Opening'.
+use Prim.Native.Nat.{ℕ, _*_, _-_}
+use mathlib.Core.Bool.{cond, _&&_}
+use mathlib.Core.List.{List, _++_}
+use lib.ListN.{drop, replicate, set}
+use Rattle.interval_store_manager.specs.Calls.{Decided, go, refuse, manager}
+use Rattle.labels.specs.Opening.{labelsOpened}
+use Rattle.store_definitions.specs.declared.Store.{Store}
+use Rattle.store_definitions.specs.declared.Shape.{Shape}
+use Rattle.store_definitions.specs.Memory.{Memory, PointStore}
+use Rattle.store_definitions.specs.Bounds.{boundsHold, startAllowed, lentEnough}
+use Rattle.store_definitions.specs.Parts.{labelHalf, withLabels}
+
+-- 'Opening checks 2, 1.'
+unfoldable pub openDecided : {E : Type 0} → Shape → Memory E → Decided
+openDecided h m =
+    cond (boundsHold (h .dimensions) (h .«shingle_size») (h .capacity) && startAllowed (h .«initial_capacity») (h .capacity))
+    (cond (lentEnough (h .dimensions) (h .capacity) (h .«store_labels») m) go (refuse 1))
+    (refuse 2)
+
+-- 'Store length starts at starting capacity × dimensions ..; sequence, free start .. 0'; all indices are free
+abbrev pub freshRecord : Shape → Store
+freshRecord h =
+    record {
+      dimensions = h .dimensions;
+      «shingle_size» = h .«shingle_size»;
+      capacity = h .capacity;
+      «internal_shingling» = h .«internal_shingling»;
+      «internal_rotation» = h .«internal_rotation»;
+      «store_labels» = h .«store_labels»;
+      «store_length» = h .«initial_capacity» * h .dimensions;
+      «start_free_region» = 0;
+      «next_sequence_index» = 0;
+      «index_manager» = manager (h .«initial_capacity») 1;
+      «label_manager» = manager (h .capacity) 1;
+      «attribute_manager» = manager (h .capacity) 1;
+    }
+
+-- the first n entries made x; a longer slice keeps its rest
+abbrev pub filledFirst : {X : Type 0} → ℕ → X → List X → List X
+filledFirst n x xs = replicate n x ++ drop n xs
+
+module _ {E : Type 0} (zeroElement : E) where
+  -- 'all 0.0; window all 0.0; .. counts, label codes, their slots and the slots' classes 0; places empty'
+  unfoldable pub openedMemory : Shape → Memory E → Memory E
+  openedMemory h m =
+      record {
+        store = filledFirst (h .«initial_capacity» * h .dimensions) zeroElement (m .store);
+        lastKnownShingle = filledFirst (h .dimensions) zeroElement (m .lastKnownShingle);
+        referenceCount = filledFirst (h .«initial_capacity») 0 (m .referenceCount);
+        location = filledFirst (h .«initial_capacity») 65535 (m .location);
+        indexStarts = set (m .indexStarts) 0 0;
+        indexEnds = set (m .indexEnds) 0 (h .«initial_capacity» - 1);
+        labels = m .labels;
+        labelAttributes = m .labelAttributes;
+        labelCount = m .labelCount;
+        labelStarts = m .labelStarts;
+        labelEnds = m .labelEnds;
+        attributes = m .attributes;
+        attributeCount = m .attributeCount;
+        attributeStarts = m .attributeStarts;
+        attributeEnds = m .attributeEnds;
+      }
+
+  unfoldable pub opened : Shape → Memory E → PointStore E
+  opened h m =
+      let p : PointStore E = record { header = freshRecord h; memory = openedMemory h m } in
+      cond (h .«store_labels») (withLabels (labelsOpened (h .capacity) (labelHalf p)) p) p
+
+-- what opening gives: a store, or a refusal and the memory as it was
+pub data OpenOutcome (E : Type 0) : Type 0 where
+  opens : PointStore E → OpenOutcome E
+  refuses : ℕ → Memory E → OpenOutcome E
+
+module _ {E : Type 0} (zeroElement : E) where
+  abbrev pub openCarriedOut : Decided → Shape → Memory E → OpenOutcome E
+  openCarriedOut go h m = opens (opened zeroElement h m)
+  openCarriedOut (refuse n) h m = refuses n m
+
+  unfoldable pub openSpec : Shape → Memory E → OpenOutcome E
+  openSpec h m = openCarriedOut (openDecided h m) h m

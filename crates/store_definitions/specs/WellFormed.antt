@@ -1,0 +1,61 @@
+-- Document 01, 'Well-formed', clause by clause in its order. By type alone: the sequence is at most 4,294,967,295 (`u32`), counts
+-- of points are at most 65,535 (`u16`), the point manager's capacity is the table length (one number).
+use Prim.Native.Nat.{ℕ, _+_, _*_, _%_}
+use mathlib.Core.Bool.{Bool, not, _&&_, _||_, Bool·beq}
+use mathlib.Core.List.{List}
+use lib.ListN.{getD}
+use lib.Dec.{leb, eqb}
+use Rattle.terms.specs.Below.{everyBelow}
+use Rattle.labels.specs.Classes.{reasonClasses}
+use Rattle.labels.specs.Counted.{countedWell}
+use Rattle.labels.specs.Labels.{labelsOk}
+use Rattle.store_definitions.specs.declared.Store.{Store}
+use Rattle.store_definitions.specs.Memory.{PointStore}
+use Rattle.store_definitions.specs.Parts.{baseOf, tableLength, pointTable, labelHalf}
+use Rattle.store_definitions.specs.Bounds.{boundsHold, rotationAllowed, lentEnough}
+
+-- the table of classes; document 02 replaces the constant by a loaded one behind this name
+abbrev pub classTable : List ℕ
+classTable = reasonClasses
+
+-- 'the free start is a multiple of base, 0 or at least dimensions, and at most the store length'
+unfoldable pub freeStartWell : Store → Bool
+freeStartWell s =
+    let free = s .«start_free_region» in
+    eqb (free % baseOf s) 0 && ((eqb free 0 || leb (s .dimensions) free) && leb free (s .«store_length»))
+
+-- 'live places are distinct': no live place below index i is that of i
+unfoldable pub placesDistinct : ℕ → List ℕ → Bool
+placesDistinct n location =
+    everyBelow n
+    (λ i. everyBelow i (λ j. not (eqb (getD location i 65535) (getD location j 65535)) || eqb (getD location i 65535) 65535))
+
+-- 'and place × base + dimensions is at most the free start'
+unfoldable pub placesEnd : ℕ → Store → List ℕ → Bool
+placesEnd n s location =
+    everyBelow n
+    (λ i.
+    eqb (getD location i 65535) 65535
+    || leb (getD location i 65535 * baseOf s + s .dimensions) (s .«start_free_region»))
+
+module _ {E : Type 0} where
+  -- 'an index is in exactly one free interval exactly when its count is 0' with 'Each manager is well-formed' (countedWell), 'and
+  -- exactly when its place is 65,535 (empty)'
+  unfoldable pub pointsWell : PointStore E → Bool
+  pointsWell p =
+      let n = tableLength (p .header) in
+      let location = p .memory .location in
+      countedWell n (pointTable p)
+      && (everyBelow n (λ i. Bool·beq (eqb (getD (p .memory .referenceCount) i 0) 0) (eqb (getD location i 65535) 65535))
+      && (placesDistinct n location && placesEnd n (p .header) location))
+
+  unfoldable pub wellFormed : PointStore E → Bool
+  wellFormed p =
+      let s = p .header in
+      boundsHold (s .dimensions) (s .«shingle_size») (s .capacity)
+      && (rotationAllowed (s .«internal_rotation»)
+      && (lentEnough (s .dimensions) (s .capacity) (s .«store_labels») (p .memory)
+      && (leb (tableLength s) (s .capacity)
+      && (leb (s .«store_length») (s .capacity * s .dimensions)
+      && (freeStartWell s
+      && (pointsWell p && labelsOk (s .«store_labels») classTable (s .capacity) (labelHalf p)))))))

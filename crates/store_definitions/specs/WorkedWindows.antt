@@ -1,0 +1,228 @@
+-- Document 01, 'Worked windows': cases A to H as one table, and the theorem that the definitions give what it says. Elements are
+-- numbers, compared as such; the memory lent to each opening holds rubbish.
+use Prim.Native.Nat.{ℕ, _*_}
+use mathlib.Core.Bool.{Bool, true, false, _&&_}
+use mathlib.Core.List.{List, [], _∷_, _++_}
+use mathlib.Core.Path.{_≡_, refl}
+use lib.ListN.{take, replicate}
+use lib.Dec.{eqb}
+use Rattle.placement.specs.declared.Laid.{Laid}
+use Rattle.placement.specs.declared.Laid.the-variants.{Whole, Joined}
+use Rattle.terms.specs.Below.{one, everyBelow}
+use Rattle.terms.specs.Rows.{allEqual}
+use Rattle.interval_store_manager.specs.Calls.{pushed, changed, taken, released}
+use Rattle.interval_store_manager.specs.Intervals.{inside, holders, isFree, inBounds, noneShared}
+use Rattle.interval_store_manager.specs.WellFormed.{capacityAllowed, lentEnough as stackLent, wellFormed as managerWellFormed}
+use Rattle.placement.specs.Alignment.{wrappingSub, wrappingAdd, alignment, zerosBefore}
+use Rattle.placement.specs.Compaction.{holds, liveBelow, moved, grownBlocks, blocks, blockMoves, copiedDown, settled, blockDown, blocksDown, writtenByBlocks, compacted}
+use Rattle.placement.specs.Copying.{turn, turned, copied}
+use Rattle.placement.specs.Growth.{grown}
+use Rattle.placement.specs.Laying.{writtenCount, laidAs, laidElements, laidFree, placeOf}
+use Rattle.placement.specs.Overlap.{overlaps}
+use Rattle.placement.specs.Row.{rowToLay, movedWindow}
+use Rattle.labels.specs.Counted.{countedWell, indexTaken, lowered}
+use Rattle.labels.specs.Decisions.{none, codeDecided, roomDecided, decDecided}
+use Rattle.store_definitions.specs.declared.Shape.{Shape}
+use Rattle.store_definitions.specs.Memory.{Memory, PointStore}
+use Rattle.store_definitions.specs.Parts.{tableLength}
+use Rattle.store_definitions.specs.Answers.{Answer, kept, waiting, done, is, says, refused, refusedAfter, Outcome}
+use Rattle.store_definitions.specs.Opening.{OpenOutcome, opens, refuses, openDecided, openedMemory, opened, openSpec}
+use Rattle.store_definitions.specs.Counting.{decTest, placeAfterDec, decremented, decSpec}
+use Rattle.store_definitions.specs.Rows.{compactedRows, grownRows, short, roomMade, compactSpec, copyOf}
+use Rattle.store_definitions.specs.Adding.{pointLength, waits, tableFull, addDecided, windowAfter, sequenced, rowOf, labelGiven, labelled, tableGrown, placed, joins, overflows, laidRows, laidHow, keptAfter, indexGiven, keeps, addSpec}
+use Rattle.store_definitions.specs.Bounds.{boundsHold, startAllowed, rotationAllowed, lentEnough}
+use Rattle.store_definitions.specs.Decisions.{formDecided, live, touchDecided}
+use Rattle.store_definitions.specs.WellFormed.{freeStartWell, placesDistinct, placesEnd, pointsWell, wellFormed}
+
+data Call : Type 0 where
+  add : List ℕ → Call
+  dec : ℕ → Call
+  compact : Call
+
+-- dimensions 4, shingle size 2, labels off
+shape : (internal rotation : Bool) → (capacity start : ℕ) → Shape
+shape internal rotation capacity start =
+    record {
+      dimensions = 4;
+      «shingle_size» = 2;
+      capacity = capacity;
+      «initial_capacity» = start;
+      «internal_shingling» = internal;
+      «internal_rotation» = rotation;
+      «store_labels» = false;
+    }
+
+rubbish : Shape → Memory ℕ
+rubbish h =
+    record {
+      store = replicate (h .capacity * 4) 77;
+      lastKnownShingle = replicate 4 77;
+      referenceCount = replicate (h .capacity) 77;
+      location = replicate (h .capacity) 77;
+      indexStarts = replicate (h .capacity) 77;
+      indexEnds = replicate (h .capacity) 77;
+      labels = [];
+      labelAttributes = [];
+      labelCount = [];
+      labelStarts = [];
+      labelEnds = [];
+      attributes = [];
+      attributeCount = [];
+      attributeStarts = [];
+      attributeEnds = [];
+    }
+
+called : Call → PointStore ℕ → Outcome ℕ
+called (add point) p = addSpec eqb 0 p point 0
+called (dec i) p = decSpec p i none
+called compact p = compactSpec 0 p
+
+-- what a case says: the answers, the places of the table, the free start, the floats before it, and the copy of one index
+record Said : Type 0 where
+  answers : List Answer
+  places : List ℕ
+  free : ℕ
+  floats : List ℕ
+  copy : List ℕ
+
+run : ℕ → List Call → PointStore ℕ → List Answer → Said
+run i [] p answers =
+    record {
+      answers = answers;
+      places = take (tableLength (p .header)) (p .memory .location);
+      free = p .header .«start_free_region»;
+      floats = take (p .header .«start_free_region») (p .memory .store);
+      copy = copyOf p i;
+    }
+run i (c ∷ cs) p answers = let o = called c p in run i cs (o .after) (answers ++ o .answer ∷ [])
+
+record Case : Type 0 where
+  opening : Shape
+  calls : List Call
+  copiedIndex : ℕ
+  said : Said
+
+started : Case → OpenOutcome ℕ → Said
+started c (opens p) = run (c .copiedIndex) (c .calls) p []
+started c (refuses n m) = record { answers = refused n ∷ []; places = []; free = 0; floats = []; copy = [] }
+
+ran : Case → Said
+ran c = started c (openSpec 0 (c .opening) (rubbish (c .opening)))
+
+abbrev plain : Shape
+plain = shape true false 10 5
+
+abbrev rotating : Shape
+rotating = shape true true 10 5
+
+abbrev five : List Call
+five = add (1 ∷ 2 ∷ []) ∷ add (3 ∷ 4 ∷ []) ∷ add (5 ∷ 6 ∷ []) ∷ add (7 ∷ 8 ∷ []) ∷ add (9 ∷ 10 ∷ []) ∷ []
+
+abbrev fiveAnswers : List Answer
+fiveAnswers = waiting ∷ kept 0 none (Whole 0) ∷ kept 1 none (Joined 1) ∷ kept 2 none (Joined 2) ∷ kept 3 none (Joined 3) ∷ []
+
+abbrev e : ℕ
+e = 65535
+
+cases : List Case
+cases =
+    -- A: add 1 2: Waiting
+    record {
+      opening = plain;
+      calls = take 1 five;
+      copiedIndex = 0;
+      said = record { answers = waiting ∷ []; places = e ∷ e ∷ e ∷ e ∷ e ∷ []; free = 0; floats = []; copy = [] };
+    }
+    -- B: 3 4: index 0, Whole, place 0, free start 4
+    ∷ record {
+      opening = plain;
+      calls = take 2 five;
+      copiedIndex = 0;
+      said = record { answers = take 2 fiveAnswers; places = 0 ∷ e ∷ e ∷ e ∷ e ∷ []; free = 4; floats = 1 ∷ 2 ∷ 3 ∷ 4 ∷ []; copy = 1 ∷ 2 ∷ 3 ∷ 4 ∷ [] };
+    }
+    -- C: 5 6: index 1, Joined, place 1, free start 6
+    ∷ record {
+      opening = plain;
+      calls = take 3 five;
+      copiedIndex = 1;
+      said = record { answers = take 3 fiveAnswers; places = 0 ∷ 1 ∷ e ∷ e ∷ e ∷ []; free = 6; floats = 1 ∷ 2 ∷ 3 ∷ 4 ∷ 5 ∷ 6 ∷ []; copy = 3 ∷ 4 ∷ 5 ∷ 6 ∷ [] };
+    }
+    -- then 7 8 and 9 10: indices 2, 3, places 2, 3, free start 10
+    ∷ record {
+      opening = plain;
+      calls = five;
+      copiedIndex = 3;
+      said = record { answers = fiveAnswers; places = 0 ∷ 1 ∷ 2 ∷ 3 ∷ e ∷ []; free = 10; floats = 1 ∷ 2 ∷ 3 ∷ 4 ∷ 5 ∷ 6 ∷ 7 ∷ 8 ∷ 9 ∷ 10 ∷ []; copy = 7 ∷ 8 ∷ 9 ∷ 10 ∷ [] };
+    }
+    -- D: dec 0, dec 1, compact: places 0 and 1 for indices 2 and 3, free start 6; copy 2 is 5 6 7 8
+    ∷ record {
+      opening = plain;
+      calls = five ++ dec 0 ∷ dec 1 ∷ compact ∷ [];
+      copiedIndex = 2;
+      said = record { answers = fiveAnswers ++ done ∷ done ∷ done ∷ []; places = e ∷ e ∷ 0 ∷ 1 ∷ e ∷ []; free = 6; floats = 5 ∷ 6 ∷ 7 ∷ 8 ∷ 9 ∷ 10 ∷ []; copy = 5 ∷ 6 ∷ 7 ∷ 8 ∷ [] };
+    }
+    -- E: add 11 12: index 0, Joined, place 2
+    ∷ record {
+      opening = plain;
+      calls = five ++ dec 0 ∷ dec 1 ∷ compact ∷ add (11 ∷ 12 ∷ []) ∷ [];
+      copiedIndex = 0;
+      said = record { answers = fiveAnswers ++ done ∷ done ∷ done ∷ kept 0 none (Joined 2) ∷ []; places = 2 ∷ e ∷ 0 ∷ 1 ∷ e ∷ []; free = 8; floats = 5 ∷ 6 ∷ 7 ∷ 8 ∷ 9 ∷ 10 ∷ 11 ∷ 12 ∷ []; copy = 9 ∷ 10 ∷ 11 ∷ 12 ∷ [] };
+    }
+    -- F: rotating, after C, copy 1 is 5 6 3 4
+    ∷ record {
+      opening = rotating;
+      calls = take 3 five;
+      copiedIndex = 1;
+      said = record { answers = take 3 fiveAnswers; places = 0 ∷ 1 ∷ e ∷ e ∷ e ∷ []; free = 6; floats = 1 ∷ 2 ∷ 3 ∷ 4 ∷ 5 ∷ 6 ∷ []; copy = 5 ∷ 6 ∷ 3 ∷ 4 ∷ [] };
+    }
+    -- G: rotating, the five adds, dec 0, compact: two zeros, free start still 10
+    ∷ record {
+      opening = rotating;
+      calls = five ++ dec 0 ∷ compact ∷ [];
+      copiedIndex = 1;
+      said = record { answers = fiveAnswers ++ done ∷ done ∷ []; places = e ∷ 1 ∷ 2 ∷ 3 ∷ e ∷ []; free = 10; floats = 0 ∷ 0 ∷ 3 ∷ 4 ∷ 5 ∷ 6 ∷ 7 ∷ 8 ∷ 9 ∷ 10 ∷ []; copy = 5 ∷ 6 ∷ 3 ∷ 4 ∷ [] };
+    }
+    -- G: without rotation 8
+    ∷ record {
+      opening = plain;
+      calls = five ++ dec 0 ∷ compact ∷ [];
+      copiedIndex = 1;
+      said = record { answers = fiveAnswers ++ done ∷ done ∷ []; places = e ∷ 0 ∷ 1 ∷ 2 ∷ e ∷ []; free = 8; floats = 3 ∷ 4 ∷ 5 ∷ 6 ∷ 7 ∷ 8 ∷ 9 ∷ 10 ∷ []; copy = 3 ∷ 4 ∷ 5 ∷ 6 ∷ [] };
+    }
+    -- H: no internal shingling, rotating, capacity 2, start 2: add 1 2 3 4; add 3 4 5 6; dec 0; add 9 9 9 9: refused 10
+    ∷ record {
+      opening = shape false true 2 2;
+      calls = add (1 ∷ 2 ∷ 3 ∷ 4 ∷ []) ∷ add (3 ∷ 4 ∷ 5 ∷ 6 ∷ []) ∷ dec 0 ∷ add (9 ∷ 9 ∷ 9 ∷ 9 ∷ []) ∷ [];
+      copiedIndex = 1;
+      said = record { answers = kept 0 none (Whole 0) ∷ kept 1 none (Joined 1) ∷ done ∷ refused 10 ∷ []; places = e ∷ 1 ∷ []; free = 6; floats = 0 ∷ 0 ∷ 3 ∷ 4 ∷ 5 ∷ 6 ∷ []; copy = 5 ∷ 6 ∷ 3 ∷ 4 ∷ [] };
+    }
+    ∷ []
+
+-- an answer as numbers: which kind it is, and what it holds
+numbers : Answer → List ℕ
+numbers (kept i l (Whole place)) = 0 ∷ i ∷ l ∷ 0 ∷ place ∷ []
+numbers (kept i l (Joined place)) = 0 ∷ i ∷ l ∷ 1 ∷ place ∷ []
+numbers waiting = 1 ∷ []
+numbers done = 2 ∷ []
+numbers (is n) = 3 ∷ n ∷ []
+numbers (says b) = 4 ∷ one b ∷ []
+numbers (refused n) = 5 ∷ n ∷ []
+numbers (refusedAfter n k) = 6 ∷ n ∷ k ∷ []
+
+same : List ℕ → List ℕ → Bool
+same xs ys = allEqual eqb xs ys
+
+agree : Said → Said → Bool
+agree a b =
+    allEqual (λ x y. same (numbers x) (numbers y)) (a .answers) (b .answers)
+    && (same (a .places) (b .places)
+    && (eqb (a .free) (b .free) && (same (a .floats) (b .floats) && same (a .copy) (b .copy))))
+
+hold : List Case → Bool
+hold [] = true
+hold (c ∷ cs) = agree (ran c) (c .said) && hold cs
+
+-- every case gives what is said of it
+worked-windows : hold cases ≡ true
+unfolding shape rubbish called run started ran cases numbers same agree hold everyBelow allEqual pushed changed taken released inside holders isFree inBounds noneShared capacityAllowed stackLent managerWellFormed wrappingSub wrappingAdd alignment zerosBefore holds liveBelow moved grownBlocks blocks blockMoves copiedDown settled blockDown blocksDown writtenByBlocks compacted turn turned copied grown writtenCount laidAs laidElements laidFree placeOf overlaps rowToLay movedWindow countedWell indexTaken lowered codeDecided roomDecided decDecided openDecided openedMemory opened openSpec decTest placeAfterDec decremented decSpec compactedRows grownRows short roomMade compactSpec copyOf pointLength waits tableFull addDecided windowAfter sequenced rowOf labelGiven labelled tableGrown placed joins overflows laidRows laidHow keptAfter indexGiven keeps addSpec boundsHold startAllowed rotationAllowed lentEnough formDecided live touchDecided freeStartWell placesDistinct placesEnd pointsWell wellFormed
+worked-windows = refl
