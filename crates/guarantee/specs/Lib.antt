@@ -1,0 +1,4 @@
+pub mod Calls
+pub mod Run
+pub mod History
+pub mod Guarantee
