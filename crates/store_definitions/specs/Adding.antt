@@ -33,6 +33,10 @@ waits s = s .«internal_shingling» && ltb (s .«next_sequence_index» + 1) (s .
 unfoldable pub tableFull : Store → Bool
 tableFull s = eqb (s .«index_manager» .last_in_use) 0 && eqb (grown (tableLength s) 0 (s .capacity)) (tableLength s)
 
+-- the entries from `from` up to `to` made x
+unfoldable pub entriesFilled : ℕ → ℕ → ℕ → List ℕ → List ℕ
+entriesFilled from to x xs = take from xs ++ replicate (to - from) x ++ drop to xs
+
 -- what is decided of an add before room is made for its row
 pub data AddDecided : Type 0 where
   keep : AddDecided
@@ -97,9 +101,6 @@ module _ {E : Type 0} where
       (entriesFilled n longer 65535 (m .location))
       p)
       p
-    where
-      entriesFilled : ℕ → ℕ → ℕ → List ℕ → List ℕ
-      entriesFilled from to x xs = take from xs ++ replicate (to - from) x ++ drop to xs
 
   -- the next index with count 1, at a place
   unfoldable pub placed : PointStore E → ℕ → PointStore E

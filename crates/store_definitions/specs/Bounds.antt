@@ -20,6 +20,18 @@ startAllowed start capacity = leb 1 start && leb start capacity
 unfoldable pub rotationAllowed : Bool → Bool
 rotationAllowed rotation = true
 
+-- '(with labels off none for labels and slots)': with labels on, of each of these
+unfoldable pub labelsLent : {E : Type 0} → ℕ → Memory E → Bool
+labelsLent capacity m =
+    leb capacity (length (m .labels))
+    && (leb capacity (length (m .labelAttributes))
+    && (leb capacity (length (m .labelCount))
+    && (leb capacity (length (m .labelStarts))
+    && (leb capacity (length (m .labelEnds))
+    && (leb capacity (length (m .attributes))
+    && (leb capacity (length (m .attributeCount))
+    && (leb capacity (length (m .attributeStarts)) && leb capacity (length (m .attributeEnds)))))))))
+
 -- 'The lent floats number at least capacity × dimensions, any other lent table or stack capacity entries (with labels off none
 -- for labels and slots), a lent window dimensions.'
 unfoldable pub lentEnough : {E : Type 0} → (dims capacity : ℕ) → Bool → Memory E → Bool
@@ -30,14 +42,3 @@ lentEnough dims capacity storeLabels m =
     && (leb capacity (length (m .location))
     && (leb capacity (length (m .indexStarts))
     && (leb capacity (length (m .indexEnds)) && cond storeLabels (labelsLent capacity m) true)))))
-  where
-    labelsLent : {E : Type 0} → ℕ → Memory E → Bool
-    labelsLent capacity m =
-        leb capacity (length (m .labels))
-        && (leb capacity (length (m .labelAttributes))
-        && (leb capacity (length (m .labelCount))
-        && (leb capacity (length (m .labelStarts))
-        && (leb capacity (length (m .labelEnds))
-        && (leb capacity (length (m .attributes))
-        && (leb capacity (length (m .attributeCount))
-        && (leb capacity (length (m .attributeStarts)) && leb capacity (length (m .attributeEnds)))))))))

@@ -1,0 +1,3 @@
+pub mod BoundsLaws
+pub mod PlacesLaws
+pub mod Sound

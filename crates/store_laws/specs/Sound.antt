@@ -1,0 +1,221 @@
+-- A store's well-formedness as a record of named facts. Its rows stand apart: compaction and growth change them alone.
+use Prim.Native.Nat.{ℕ, _+_, _*_, _/_, _%_, _≤_, _<_, _∣_}
+use native.Mathlib.Nat.{dvd-of-mod-eq-zero, mod-eq-zero-of-dvd}
+use native.Mathlib.Decide.{ℕ-discrete}
+use native.Mathlib.Omega.{arith}
+use mathlib.Core.Bool.{Bool, true, false, cond, _&&_, _||_, Bool·beq, or-true}
+use mathlib.Core.List.{List}
+use mathlib.Core.Logic.{_⊎_, inl, inr}
+use mathlib.Core.Path.{_≡_, refl, sym, _∙_}
+use lib.ListN.{length, getD, take}
+use lib.Seq.{getD-take}
+use lib.Dec.{leb, eqb}
+use borrow.Author.Tests.{eq-eqb, ne-eqb, eqb-true, eqb-false, le-leb, leb-true}
+use Rattle.terms.specs.Below.{both, and-make, every-at, every-make}
+use Rattle.interval_store_manager.specs.Sound.{sound as managerSound}
+use Rattle.placement.specs.Places.{Live, WellPlaced, Distinct}
+use Rattle.labels.specs.Classes.{AtMostNine, reason-rule, rule-most}
+use Rattle.labels.specs.Counted.{Counted, countAt}
+use Rattle.labels.specs.CountedLaws.{WellCounted, well-counted, well-counted-make, beq-same, same-beq}
+use Rattle.labels.specs.Labels.{labelsWell, labelsOk}
+use Rattle.labels.specs.Sound.{Sound as LabelsSound, sound as labels-sound, sound-make as labels-sound-make}
+use Rattle.store_definitions.specs.declared.Store.{Store}
+use Rattle.store_definitions.specs.Memory.{Memory, PointStore}
+use Rattle.store_definitions.specs.Parts.{baseOf, tableLength, Rows, rowsOf, pointTable, labelHalf}
+use Rattle.store_definitions.specs.Bounds.{boundsHold, rotationAllowed, labelsLent, lentEnough}
+use Rattle.store_definitions.specs.WellFormed.{classTable, freeStartWell, placesDistinct, placesEnd, pointsWell, wellFormed}
+use Rattle.store_laws.specs.BoundsLaws.{InBounds, in-bounds, in-bounds-make, shaped}
+use Rattle.store_laws.specs.PlacesLaws.{live-make, distinct, distinct-make, ends, ends-make}
+
+-- rows of a shape, of which the first n places are in use
+pub record RowsSound {E : Type 0} (dims base capacity n : ℕ) (r : Rows E) : Type 0 where
+  pub floats-lent : capacity * dims ≤ length (r .elements)
+  pub places-lent : capacity ≤ length (r .location)
+  pub store-within : r .storeLength ≤ capacity * dims
+  pub free-whole : base ∣ r .free
+  pub free-started : (r .free ≡ 0) ⊎ (dims ≤ r .free)
+  pub free-inside : r .free ≤ r .storeLength
+  pub well-placed : WellPlaced dims base (take n (r .location)) (r .free) (length (r .elements))
+  pub distinct-places : Distinct (take n (r .location))
+
+-- the lent lists besides the rows' and the labels'
+pub record PointsLent {E : Type 0} (dims capacity : ℕ) (m : Memory E) : Type 0 where
+  pub window-lent : dims ≤ length (m .lastKnownShingle)
+  pub counts-lent : capacity ≤ length (m .referenceCount)
+  pub starts-lent : capacity ≤ length (m .indexStarts)
+  pub ends-lent : capacity ≤ length (m .indexEnds)
+
+-- no class of the table is above 9
+pub class-most : AtMostNine classTable
+class-most = rule-most classTable reason-rule
+
+started : (free dims : ℕ) → (eqb free 0 || leb dims free) ≡ true → (free ≡ 0) ⊎ (dims ≤ free)
+started free dims e =
+    elim (ℕ-discrete free 0) [ yes q ↦ inl q | no d ↦ inr (leb-true dims free (rw (ne-eqb free 0 d) at e)) ]
+
+started-make : (free dims : ℕ) → (free ≡ 0) ⊎ (dims ≤ free) → (eqb free 0 || leb dims free) ≡ true
+started-make free dims (inl q) = rw (eq-eqb free 0 q)
+started-make free dims (inr l) = rw (le-leb dims free l) (or-true (eqb free 0))
+
+-- a table's stack has an entry for each index
+stacks-lent : (c : ℕ) (t : Counted) → WellCounted c t → (c ≤ length (t .starts)) × (c ≤ length (t .ends))
+stacks-lent c t w =
+    let s = managerSound (t .manager) (t .starts) (t .ends) (w .managed) in
+    (omega (arith, w .whole, s .starts-lent), omega (arith, w .whole, s .ends-lent))
+
+module _ {E : Type 0} where
+  pub record Sound (p : PointStore E) : Type 0 where
+    pub bounds : InBounds (p .header .dimensions) (p .header .«shingle_size») (p .header .capacity)
+    pub rotation : rotationAllowed (p .header .«internal_rotation») ≡ true
+    pub lent : PointsLent (p .header .dimensions) (p .header .capacity) (p .memory)
+    pub table-within : tableLength (p .header) ≤ p .header .capacity
+    pub rows : RowsSound (p .header .dimensions) (baseOf (p .header)) (p .header .capacity) (tableLength (p .header)) (rowsOf p)
+    pub points : WellCounted (tableLength (p .header)) (pointTable p)
+    -- count 0 exactly at an empty place
+    pub empty-is : (i : ℕ) → i < tableLength (p .header) → eqb (countAt (pointTable p) i) 0 ≡ eqb (getD (p .memory .location) i 65535) 65535
+    pub labels : p .header .«store_labels» ≡ true → LabelsSound classTable (p .header .capacity) (labelHalf p)
+
+  -- 'with labels off those two, the labels and the slots are not looked at'
+  labels-are : (b : Bool) (c : ℕ) (p : PointStore E) → labelsOk b classTable c (labelHalf p) ≡ true → b ≡ true → LabelsSound classTable c (labelHalf p)
+  labels-are true c p e h = labels-sound classTable c (labelHalf p) e
+  labels-are false c p e h = absurd (let z : _≡_ {A = ℕ} 0 1 = cc in omega arith)
+
+  labels-are-make : (b : Bool) (c : ℕ) (p : PointStore E) → (b ≡ true → LabelsSound classTable c (labelHalf p)) → labelsOk b classTable c (labelHalf p) ≡ true
+  labels-are-make true c p f = labels-sound-make classTable c (labelHalf p) (f refl)
+  labels-are-make false c p f = refl
+
+  -- what is lent for the labels follows from the label half
+  labels-lent-make : (c : ℕ) (p : PointStore E) → LabelsSound classTable c (labelHalf p) → labelsLent c (p .memory) ≡ true
+  unfolding labelsLent
+  labels-lent-make c p l =
+      let m = p .memory in
+      let a = stacks-lent c (labelHalf p .labelTable) (l .label-table) in
+      let b = stacks-lent c (labelHalf p .attributeTable) (l .slot-table) in
+      and-make _ _ (le-leb c (length (m .labels)) (l .codes-lent))
+      (and-make _ _ (le-leb c (length (m .labelAttributes)) (l .slots-lent))
+      (and-make _ _ (le-leb c (length (m .labelCount)) (l .label-table .lent))
+      (and-make _ _ (le-leb c (length (m .labelStarts)) (a .0))
+      (and-make _ _ (le-leb c (length (m .labelEnds)) (a .1))
+      (and-make _ _ (le-leb c (length (m .attributes)) (l .classes-lent))
+      (and-make _ _ (le-leb c (length (m .attributeCount)) (l .slot-table .lent))
+      (and-make _ _ (le-leb c (length (m .attributeStarts)) (b .0)) (le-leb c (length (m .attributeEnds)) (b .1)))))))))
+
+  lent-make : (b : Bool) (dims c : ℕ) (p : PointStore E) → c * dims ≤ length (p .memory .store) → c ≤ length (p .memory .location) → PointsLent dims c (p .memory) → (b ≡ true → LabelsSound classTable c (labelHalf p)) → lentEnough dims c b (p .memory) ≡ true
+  unfolding lentEnough
+  lent-make b dims c p h g l f =
+      let m = p .memory in
+      and-make _ _ (le-leb (c * dims) (length (m .store)) h)
+      (and-make _ _ (le-leb dims (length (m .lastKnownShingle)) (l .window-lent))
+      (and-make _ _ (le-leb c (length (m .referenceCount)) (l .counts-lent))
+      (and-make _ _ (le-leb c (length (m .location)) g)
+      (and-make _ _ (le-leb c (length (m .indexStarts)) (l .starts-lent))
+      (and-make _ _ (le-leb c (length (m .indexEnds)) (l .ends-lent)) (labelled b f))))))
+    where
+      labelled : (b : Bool) → (b ≡ true → LabelsSound classTable c (labelHalf p)) → cond b (labelsLent c (p .memory)) true ≡ true
+      labelled true f = labels-lent-make c p (f refl)
+      labelled false f = refl
+
+  module _ (p : PointStore E) where
+    abbrev s : Store
+    s = p .header
+
+    abbrev m : Memory E
+    m = p .memory
+
+    abbrev n : ℕ
+    n = tableLength s
+
+    emptyAt : ℕ → Bool
+    emptyAt i = Bool·beq (eqb (getD (m .referenceCount) i 0) 0) (eqb (getD (m .location) i 65535) 65535)
+
+    pub sound : wellFormed p ≡ true → Sound p
+    unfolding wellFormed lentEnough freeStartWell pointsWell emptyAt
+    sound e =
+        let p1 = both _ _ e in
+        let p2 = both _ _ (p1 .1) in
+        let p3 = both _ _ (p2 .1) in
+        let p4 = both _ _ (p3 .1) in
+        let p5 = both _ _ (p4 .1) in
+        let p6 = both _ _ (p5 .1) in
+        let p7 = both _ _ (p6 .1) in
+        let l1 = both _ _ (p3 .0) in
+        let l2 = both _ _ (l1 .1) in
+        let l3 = both _ _ (l2 .1) in
+        let l4 = both _ _ (l3 .1) in
+        let l5 = both _ _ (l4 .1) in
+        let l6 = both _ _ (l5 .1) in
+        let f1 = both _ _ (p6 .0) in
+        let f2 = both _ _ (f1 .1) in
+        let q1 = both _ _ (p7 .0) in
+        let q2 = both _ _ (q1 .1) in
+        let q3 = both _ _ (q2 .1) in
+        let b = in-bounds (s .dimensions) (s .«shingle_size») (s .capacity) (p1 .0) in
+        let floats : s .capacity * s .dimensions ≤ length (m .store) = leb-true (s .capacity * s .dimensions) (length (m .store)) (l1 .0) in
+        let places : s .capacity ≤ length (m .location) = leb-true (s .capacity) (length (m .location)) (l4 .0) in
+        let table : n ≤ s .capacity = leb-true n (s .capacity) (p4 .0) in
+        let within : s .«store_length» ≤ s .capacity * s .dimensions = leb-true (s .«store_length») (s .capacity * s .dimensions) (p5 .0) in
+        let inside : s .«start_free_region» ≤ s .«store_length» = leb-true (s .«start_free_region») (s .«store_length») (f2 .1) in
+        record {
+          bounds = b;
+          rotation = p2 .0;
+          lent = record {
+            window-lent = leb-true (s .dimensions) (length (m .lastKnownShingle)) (l2 .0);
+            counts-lent = leb-true (s .capacity) (length (m .referenceCount)) (l3 .0);
+            starts-lent = leb-true (s .capacity) (length (m .indexStarts)) (l5 .0);
+            ends-lent = leb-true (s .capacity) (length (m .indexEnds)) (l6 .0);
+          };
+          table-within = table;
+          rows = record {
+            floats-lent = floats;
+            places-lent = places;
+            store-within = within;
+            free-whole = dvd-of-mod-eq-zero (baseOf s) (eqb-true (s .«start_free_region» % baseOf s) 0 (f1 .0));
+            free-started = started (s .«start_free_region») (s .dimensions) (f2 .0);
+            free-inside = inside;
+            well-placed = record {
+              shaped = shaped (s .dimensions) (s .«shingle_size») (s .capacity) b;
+              small = omega (arith, b .dims-most, b .floats-most);
+              inside = omega arith;
+              ends = ends n (m .location) (omega arith) s (q3 .1);
+            };
+            distinct-places = distinct n (m .location) (omega arith) (q3 .0);
+          };
+          points = well-counted n (pointTable p) (q1 .0);
+          empty-is = λ i h.
+              beq-same (eqb (getD (m .referenceCount) i 0) 0) (eqb (getD (m .location) i 65535) 65535)
+              (every-at n emptyAt (q2 .0) i h);
+          labels = labels-are (s .«store_labels») (s .capacity) p (p7 .1);
+        }
+
+    pub sound-make : Sound p → wellFormed p ≡ true
+    unfolding wellFormed freeStartWell pointsWell emptyAt
+    sound-make w =
+        let r = w .rows in
+        let free = s .«start_free_region» in
+        and-make _ _ (in-bounds-make (s .dimensions) (s .«shingle_size») (s .capacity) (w .bounds))
+        (and-make _ _ (w .rotation)
+        (and-make _ _ (lent-make (s .«store_labels») (s .dimensions) (s .capacity) p (r .floats-lent) (r .places-lent) (w .lent) (w .labels))
+        (and-make _ _ (le-leb n (s .capacity) (w .table-within))
+        (and-make _ _ (le-leb (s .«store_length») (s .capacity * s .dimensions) (r .store-within))
+        (and-make _ _
+        (and-make _ _ (eq-eqb (free % baseOf s) 0 (mod-eq-zero-of-dvd (baseOf s) (r .free-whole)))
+        (and-make _ _ (started-make free (s .dimensions) (r .free-started)) (le-leb free (s .«store_length») (r .free-inside))))
+        (and-make _ _
+        (and-make _ _ (well-counted-make n (pointTable p) (w .points))
+        (and-make _ _
+        (every-make n emptyAt
+        (λ i h. same-beq (eqb (getD (m .referenceCount) i 0) 0) (eqb (getD (m .location) i 65535) 65535) (w .empty-is i h)))
+        (and-make _ _ (distinct-make n (m .location) (omega (arith, r .places-lent, w .table-within)) (r .distinct-places))
+        (ends-make n (m .location) (omega (arith, r .places-lent, w .table-within)) s (r .well-placed .ends)))))
+        (labels-are-make (s .«store_labels») (s .capacity) p (w .labels))))))))
+
+    -- an index with a count has a point, which ends at most at the free start; so its place is not the empty one
+    module _ (w : Sound p) (i : ℕ) (h : i < n) (u : 0 < getD (m .referenceCount) i 0) where
+      pub counted-live : Live (take n (m .location)) i
+      counted-live =
+          live-make n (m .location) (omega (arith, w .rows .places-lent, w .table-within)) i h
+          (eqb-false (getD (m .location) i 65535) 65535
+          (sym (w .empty-is i h) ∙ ne-eqb (getD (m .referenceCount) i 0) 0 (λ z. omega arith)))
+
+      pub place-ends : getD (m .location) i 65535 * baseOf s + s .dimensions ≤ s .«start_free_region»
+      place-ends = rw (getD-take n (m .location) i 65535 h) at (w .rows .well-placed .ends i counted-live)
