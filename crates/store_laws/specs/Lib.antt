@@ -1,3 +1,4 @@
 pub mod BoundsLaws
 pub mod PlacesLaws
 pub mod Sound
+pub mod RowsLaws

@@ -1,0 +1,139 @@
+-- Compaction, growth and the room that an add makes keep rows sound, and empty the place of no point.
+use Prim.Native.Nat.{ℕ, _+_, _*_, _-_, _≤_, _<_}
+use native.Mathlib.Decide.{ℕ-discrete}
+use native.Mathlib.Omega.{arith}
+use mathlib.Core.Bool.{Bool, true, false, cond}
+use mathlib.Core.List.{List, _++_}
+use mathlib.Core.Path.{_≡_, refl, sym, _∙_}
+use lib.ListN.{length, getD, take, drop, replicate, length-append, length-drop, length-replicate, List·getD-append}
+use lib.Seq.{length-take-le, take-at, getD-take}
+use lib.Dec.{eqb}
+use borrow.Author.Tests.{eq-eqb, ne-eqb}
+use Rattle.placement.specs.Compaction.{Layout, compacted}
+use Rattle.placement.specs.CompactionLaws.{CompactionKeeps, compaction-keeps, well-after, distinct-after}
+use Rattle.placement.specs.Growth.{grown, grown-within}
+use Rattle.placement.specs.Places.{WellPlaced, Distinct}
+use Rattle.store_definitions.specs.declared.Store.{Store}
+use Rattle.store_definitions.specs.Memory.{PointStore}
+use Rattle.store_definitions.specs.Parts.{baseOf, tableLength, Rows, rowsOf, withRows}
+use Rattle.store_definitions.specs.Rows.{compactedRows, grownRows, short, roomMade}
+use Rattle.store_laws.specs.PlacesLaws.{live-make}
+use Rattle.store_laws.specs.Sound.{RowsSound, Sound}
+
+-- the same of the first n places are empty
+abbrev pub SameEmpty : ℕ → List ℕ → List ℕ → Type 0
+SameEmpty n a b = (i : ℕ) → i < n → eqb (getD a i 65535) 65535 ≡ eqb (getD b i 65535) 65535
+
+-- rows of the shape and the table of a store
+abbrev pub RowsOf : {E : Type 0} → Store → Rows E → Type 0
+RowsOf s r = RowsSound (s .dimensions) (baseOf s) (s .capacity) (tableLength s) r
+
+-- a store with other rows in place of its own
+pub with-rows : {E : Type 0} (p : PointStore E) (r : Rows E) → Sound p → RowsOf (p .header) r → SameEmpty (tableLength (p .header)) (p .memory .location) (r .location) → Sound (withRows r p)
+with-rows p r w g e =
+    record {
+      bounds = w .bounds;
+      rotation = w .rotation;
+      lent = record { window-lent = w .lent .window-lent; counts-lent = w .lent .counts-lent; starts-lent = w .lent .starts-lent; ends-lent = w .lent .ends-lent };
+      table-within = w .table-within;
+      rows = g;
+      points = w .points;
+      empty-is = λ i h. w .empty-is i h ∙ e i h;
+      labels = w .labels;
+    }
+
+module _ {E : Type 0} (zeroElement : E) (s : Store) (t : tableLength s ≤ s .capacity) where
+  abbrev n : ℕ
+  n = tableLength s
+
+  module _ (r : Rows E) (w : RowsOf s r) where
+    abbrev l : Layout E
+    l = compacted zeroElement (s .dimensions) (baseOf s) (s .«internal_rotation») (r .elements) (take n (r .location)) (r .free)
+
+    kept : CompactionKeeps (s .dimensions) (baseOf s) (s .«internal_rotation») (take n (r .location)) (r .free) (r .elements) l
+    kept = compaction-keeps zeroElement (s .dimensions) (baseOf s) (s .«internal_rotation») (r .elements) (take n (r .location)) (r .free) (w .well-placed)
+
+    lent : n ≤ length (r .location)
+    lent = omega (arith, w .places-lent)
+
+    listed : length (l .location) ≡ n
+    listed = kept .indices-kept ∙ length-take-le n (r .location) lent
+
+    front : take n (l .location ++ drop n (r .location)) ≡ l .location
+    front = take-at (l .location) (drop n (r .location)) n listed
+
+    pub compacted-sound : RowsOf s (compactedRows zeroElement s r)
+    unfolding compactedRows
+    compacted-sound =
+        record {
+          floats-lent = rw (kept .length-kept) (w .floats-lent);
+          places-lent = rw (length-append (l .location) (drop n (r .location)), length-drop n (r .location)) (omega (arith, listed, w .places-lent));
+          store-within = w .store-within;
+          free-whole = kept .free-whole;
+          free-started = kept .free-started;
+          free-inside = omega (arith, kept .free-down, w .free-inside);
+          well-placed = rw front (well-after (s .dimensions) (baseOf s) (s .«internal_rotation») (take n (r .location)) (r .free) (r .elements) l (w .well-placed) kept);
+          distinct-places = rw front (distinct-after (s .dimensions) (baseOf s) (s .«internal_rotation») (take n (r .location)) (r .free) (r .elements) l (w .well-placed) kept (w .distinct-places));
+        }
+
+    pub compacted-empty : SameEmpty n (r .location) (compactedRows zeroElement s r .location)
+    unfolding compactedRows
+    compacted-empty i h =
+        rw (List·getD-append (l .location) (drop n (r .location)) 65535 i (omega (arith, listed)))
+        (elim (ℕ-discrete (getD (r .location) i 65535) 65535) [
+          | yes e ↦
+              eq-eqb (getD (r .location) i 65535) 65535 e
+              ∙ sym (eq-eqb (getD (l .location) i 65535) 65535 (kept .empty-kept i (getD-take n (r .location) i 65535 h ∙ e)))
+          | no d ↦
+              ne-eqb (getD (r .location) i 65535) 65535 d
+              ∙ sym (ne-eqb (getD (l .location) i 65535) 65535
+              (λ e.
+              omega (arith, rw e at (kept .ends i (live-make n (r .location) lent i h d)), kept .free-down, w .well-placed .small, w .well-placed .shaped .some-base)))
+        ])
+
+    -- growth by a fifth, in the lent floats
+    abbrev longer : ℕ
+    longer = grown (r .storeLength) 0 (s .capacity * s .dimensions)
+
+    grows : (r .storeLength ≤ longer) × (longer ≤ s .capacity * s .dimensions)
+    grows = grown-within (r .storeLength) 0 (s .capacity * s .dimensions) (w .store-within)
+
+    same-length : length (grownRows zeroElement s r .elements) ≡ length (r .elements)
+    unfolding grownRows
+    same-length =
+        simp (length-append, length-replicate, length-drop)
+        (omega (arith, length-take-le (r .storeLength) (r .elements) (omega (arith, w .store-within, w .floats-lent)), grows, w .floats-lent))
+
+    pub grown-sound : RowsOf s (grownRows zeroElement s r)
+    unfolding grownRows
+    grown-sound =
+        record {
+          floats-lent = rw same-length (w .floats-lent);
+          places-lent = w .places-lent;
+          store-within = grows .1;
+          free-whole = w .free-whole;
+          free-started = w .free-started;
+          free-inside = omega (arith, w .free-inside, grows);
+          well-placed = rw same-length (w .well-placed);
+          distinct-places = w .distinct-places;
+        }
+
+  -- one of three rows
+  chosen : (P : Rows E → Type 0) (a b : Bool) (x y z : Rows E) → P x → P y → P z → P (cond a (cond b x y) z)
+  chosen P true true x y z f g h = f
+  chosen P true false x y z f g h = g
+  chosen P false b x y z f g h = h
+
+  module _ (r : Rows E) (w : RowsOf s r) where
+    abbrev c : Rows E
+    c = compactedRows zeroElement s r
+
+    pub room-sound : RowsOf s (roomMade zeroElement s r)
+    unfolding roomMade
+    room-sound = chosen (RowsOf s) (short zeroElement s r) (short zeroElement s c) (grownRows zeroElement s c) c r (grown-sound c (compacted-sound r w)) (compacted-sound r w) w
+
+    pub room-empty : SameEmpty n (r .location) (roomMade zeroElement s r .location)
+    unfolding roomMade grownRows
+    room-empty =
+        chosen (λ x. SameEmpty n (r .location) (x .location)) (short zeroElement s r) (short zeroElement s c) (grownRows zeroElement s c) c r (compacted-empty r w) (compacted-empty r w)
+        (λ i h. refl)
