@@ -5,3 +5,5 @@ pub mod Guarantee
 pub mod Relates
 pub mod LifeLaws
 pub mod CountCalls
+pub mod RoomLaws
+pub mod SpaceLaws
