@@ -152,7 +152,7 @@ module _ {E : Type 0} (eq : E → E → Bool) (zeroElement : E) where
       cond (overflows eq s r row) (outcome (refused 10) (withRows r p))
       (outcome (kept (indexGiven p) (labelGiven p) (laidHow eq s r row)) (keptAfter p point code))
 
-  abbrev addCarriedOut : AddDecided → PointStore E → List E → ℕ → Outcome E
+  abbrev pub addCarriedOut : AddDecided → PointStore E → List E → ℕ → Outcome E
   addCarriedOut keep p point code = keeps p point code
   addCarriedOut wait p point code = outcome waiting (sequenced p point)
   addCarriedOut (refuseAdd n) p point code = outcome (refused n) p

@@ -71,7 +71,7 @@ module _ {E : Type 0} where
       cond (eqb (q .deleteIndex) none) r (decremented r (q .deleteIndex) (q .deleteLabel))
 
   -- 'Insert index none: the pair is skipped.' 'A refused pair changes nothing and ends the call.' `before` pairs stand before
-  abbrev pairCarriedOut : Decided → PointStore E → ℕ → (PointStore E → Outcome E) → PointStore E → Outcome E
+  abbrev pub pairCarriedOut : Decided → PointStore E → ℕ → (PointStore E → Outcome E) → PointStore E → Outcome E
   pairCarriedOut go p before rest r = rest r
   pairCarriedOut (refuse n) p before rest r = outcome (refusedAfter n before) p
 

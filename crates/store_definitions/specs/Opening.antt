@@ -73,7 +73,7 @@ pub data OpenOutcome (E : Type 0) : Type 0 where
   refuses : ℕ → Memory E → OpenOutcome E
 
 module _ {E : Type 0} (zeroElement : E) where
-  abbrev openCarriedOut : Decided → Shape → Memory E → OpenOutcome E
+  abbrev pub openCarriedOut : Decided → Shape → Memory E → OpenOutcome E
   openCarriedOut go h m = opens (opened zeroElement h m)
   openCarriedOut (refuse n) h m = refuses n m
 

@@ -15,6 +15,10 @@ pub either : {A : Type 0} (P : A → Type 0) (b : Bool) (x y : A) → P x → P 
 either P true x y f g = f
 either P false x y f g = g
 
+pub by-cases : {A : Type 0} (P : A → Type 0) (b : Bool) (x y : A) → (b ≡ true → P x) → (b ≡ false → P y) → P (cond b x y)
+by-cases P true x y f g = f refl
+by-cases P false x y f g = g refl
+
 -- the stack after a call of the manager
 pub record SameStack (starts ends : List ℕ) (o : Outcome) : Type 0 where
   pub starts-same : length (o .starts) ≡ length starts

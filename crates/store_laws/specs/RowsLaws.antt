@@ -16,9 +16,13 @@ use Rattle.placement.specs.Places.{WellPlaced, Distinct}
 use Rattle.store_definitions.specs.declared.Store.{Store}
 use Rattle.store_definitions.specs.Memory.{PointStore}
 use Rattle.store_definitions.specs.Parts.{baseOf, tableLength, Rows, rowsOf, withRows}
-use Rattle.store_definitions.specs.Rows.{compactedRows, grownRows, short, roomMade}
+use Rattle.store_definitions.specs.Answers.{done, outcome}
+use Rattle.store_definitions.specs.Decisions.{formDecided}
+use Rattle.store_definitions.specs.Rows.{compactedRows, grownRows, short, roomMade, compactSpec}
+use Rattle.store_definitions.specs.WellFormed.{wellFormed}
 use Rattle.store_laws.specs.PlacesLaws.{live-make}
-use Rattle.store_laws.specs.Sound.{RowsSound, Sound}
+use Rattle.store_laws.specs.Sound.{RowsSound, Sound, sound, sound-make}
+use Rattle.store_laws.specs.DecisionLaws.{carried}
 
 -- the same of the first n places are empty
 abbrev pub SameEmpty : ℕ → List ℕ → List ℕ → Type 0
@@ -137,3 +141,14 @@ module _ {E : Type 0} (zeroElement : E) (s : Store) (t : tableLength s ≤ s .ca
     room-empty =
         chosen (λ x. SameEmpty n (r .location) (x .location)) (short zeroElement s r) (short zeroElement s c) (grownRows zeroElement s c) c r (compacted-empty r w) (compacted-empty r w)
         (λ i h. refl)
+
+pub compact-keeps : {E : Type 0} (zeroElement : E) (p : PointStore E) → wellFormed p ≡ true → wellFormed (compactSpec zeroElement p .after) ≡ true
+unfolding compactSpec
+compact-keeps zeroElement p e =
+    let w = sound p e in
+    let r = compactedRows zeroElement (p .header) (rowsOf p) in
+    carried (λ q. wellFormed q ≡ true) (formDecided p) p (outcome done (withRows r p)) e
+    (λ g.
+    sound-make (withRows r p)
+    (with-rows p r w (compacted-sound zeroElement (p .header) (w .table-within) (rowsOf p) (w .rows))
+    (compacted-empty zeroElement (p .header) (w .table-within) (rowsOf p) (w .rows))))
