@@ -8,8 +8,8 @@ use mathlib.Core.Path.{_≡_, refl, sym, ap, subst, _∙_}
 use lib.ListN.{getD, set}
 use lib.Seq.{getD-set-same, getD-set-other}
 use lib.Dec.{eqb}
-use borrow.Author.Tests.{eq-eqb, ne-eqb, ltb-true}
-use Rattle.terms.specs.Below.{both, sumBelow}
+use borrow.Author.Tests.{eq-eqb, ne-eqb}
+use Rattle.terms.specs.Below.{sumBelow}
 use Rattle.terms.specs.Sums.{sum-changed}
 use Rattle.labels.specs.Counted.{raised, lowered}
 use Rattle.labels.specs.CountedLaws.{lower-keeps, lowered-counts}
@@ -17,20 +17,12 @@ use Rattle.labels.specs.Labels.{Labels}
 use Rattle.store_definitions.specs.declared.Shape.{Shape}
 use Rattle.store_definitions.specs.Memory.{PointStore}
 use Rattle.store_definitions.specs.Parts.{tableLength, pointTable, withLabels}
-use Rattle.store_definitions.specs.Decisions.{live}
 use Rattle.store_definitions.specs.Counting.{incremented, decremented, placeAfterDec}
 use Rattle.store_definitions.specs.Rows.{copyOf}
 use Rattle.store_laws.specs.Sound.{Sound}
 use Rattle.guarantee.specs.History.{Given, alive, count, isLive, History, inced, deced, incedLife, decedLife, changed}
 use Rattle.guarantee.specs.LifeLaws.{inced-count, inced-live, inced-counted, inced-since, deced-count, deced-live, deced-was-live, deced-counted, deced-since}
 use Rattle.guarantee.specs.Relates.{Relates}
-
--- an index that is live in a store
-pub live-facts : {E : Type 0} (p : PointStore E) (i : ℕ) → live p i ≡ true → (i < tableLength (p .header)) × (0 < getD (p .memory .referenceCount) i 0)
-unfolding live
-live-facts p i e =
-    let b = both _ _ e in
-    (ltb-true i (tableLength (p .header)) (b .0), ltb-true 0 (getD (p .memory .referenceCount) i 0) (b .1))
 
 module _ {E : Type 0} (eq : E → E → Bool) (h : Shape) (then : Given E → PointStore E) where
   -- the label half plays no part
@@ -56,18 +48,15 @@ module _ {E : Type 0} (eq : E → E → Bool) (h : Shape) (then : Given E → Po
       }
   labels-aside false s l p r = r
 
-  module _ (s : History E) (p : PointStore E) (w : Sound p) (r : Relates eq h then s p) (g : Given E) (i : ℕ) (l : live p i ≡ true) where
+  module _ (s : History E) (p : PointStore E) (w : Sound p) (r : Relates eq h then s p) (g : Given E) (i : ℕ) (listed : i < tableLength (p .header)) (counted : 0 < getD (p .memory .referenceCount) i 0) where
     abbrev n : ℕ
     n = tableLength (p .header)
 
     abbrev cs : List ℕ
     cs = p .memory .referenceCount
 
-    listed : i < n
-    listed = live-facts p i l .0
-
     some : 0 < count (s .life i)
-    some = rw (sym (r .counts i listed)) (live-facts p i l .1)
+    some = rw (sym (r .counts i listed)) (counted)
 
     inside : i < lib.ListN.length cs
     inside = omega (arith, listed, w .points .lent)
@@ -105,7 +94,7 @@ module _ {E : Type 0} (eq : E → E → Bool) (h : Shape) (then : Given E → Po
         })
 
     whole : lowered (pointTable p) i .manager .capacity ≡ n
-    whole = lower-keeps n (pointTable p) (w .points) i listed (live-facts p i l .1) .whole
+    whole = lower-keeps n (pointTable p) (w .points) i listed (counted) .whole
 
     -- the places of the other indices stay, and the index's own while it lives
     place-stays : (k : ℕ) → (k ≡ i → 1 < getD cs i 0) → getD (placeAfterDec p i) k 65535 ≡ getD (p .memory .location) k 65535
@@ -142,7 +131,7 @@ module _ {E : Type 0} (eq : E → E → Bool) (h : Shape) (then : Given E → Po
           live-below = λ k e. rw whole (r .live-below k (deced-was-live (eqb k i) (s .life k) e));
           live-counted = λ k e.
               deced-counted (eqb k i) (s .life k) (r .live-counted k (deced-was-live (eqb k i) (s .life k) e)) e;
-          sum = simp (whole, lowered-counts (pointTable p) i) (omega (arith, others (getD cs i 0 - 1), r .sum, live-facts p i l .1));
+          sum = simp (whole, lowered-counts (pointTable p) i) (omega (arith, others (getD cs i 0 - 1), r .sum, counted));
           copies = λ k f since.
               rw (place-stays k (more-than-one k (since .0) (since .1) f (since .2)))
               (r .copies k f (deced-since (eqb k i) (s .life k) (since .0) (since .1) f (since .2)));

@@ -7,3 +7,4 @@ pub mod LifeLaws
 pub mod CountCalls
 pub mod RoomLaws
 pub mod SpaceLaws
+pub mod AdjustCall
