@@ -8,3 +8,5 @@ pub mod CountCalls
 pub mod RoomLaws
 pub mod SpaceLaws
 pub mod AdjustCall
+pub mod RowCalls
+pub mod WindowLaws

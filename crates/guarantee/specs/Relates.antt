@@ -13,7 +13,7 @@ use Rattle.store_definitions.specs.declared.Shape.{Shape}
 use Rattle.store_definitions.specs.declared.Store.{Store}
 use Rattle.store_definitions.specs.Memory.{PointStore}
 use Rattle.store_definitions.specs.Answers.{Output}
-use Rattle.store_definitions.specs.Parts.{tableLength}
+use Rattle.store_definitions.specs.Parts.{baseOf, tableLength}
 use Rattle.store_definitions.specs.Decisions.{refuseIf, writes}
 use Rattle.store_definitions.specs.Rows.{copyOf}
 use Rattle.guarantee.specs.Calls.{copyCall}
@@ -56,7 +56,7 @@ module _ {E : Type 0} (eq : E → E → Bool) (h : Shape) (then : Given E → Po
     pub copies : (i : ℕ) (g : Given E) → LiveSince s i g → CopyStands i g (copyOf p i)
     -- the window ends with the points of the last accepted adds
     pub sequence : p .header .«next_sequence_index» ≡ length (s .points)
-    pub window : h .«internal_shingling» ≡ true → (k : ℕ) → k ≤ h .«shingle_size» → k ≤ length (s .points)
-        → drop (h .dimensions - k * (h .dimensions / h .«shingle_size»)) (take (h .dimensions) (p .memory .lastKnownShingle)) ≡ joinedPoints k (s .points)
+    pub window : p .header .«internal_shingling» ≡ true → (k : ℕ) → k ≤ p .header .«shingle_size» → k ≤ length (s .points)
+        → drop (p .header .dimensions - k * baseOf (p .header)) (take (p .header .dimensions) (p .memory .lastKnownShingle)) ≡ joinedPoints k (s .points)
     -- float space, by itself
     pub space : Roomy (p .header)
