@@ -7,3 +7,5 @@ pub mod Lengths
 pub mod PointsLaws
 pub mod CountingLaws
 pub mod TableLaws
+pub mod LaidLaws
+pub mod AddingLaws
