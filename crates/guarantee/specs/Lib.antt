@@ -10,3 +10,4 @@ pub mod SpaceLaws
 pub mod AdjustCall
 pub mod RowCalls
 pub mod WindowLaws
+pub mod TableCalls

@@ -3,7 +3,7 @@ use Prim.Native.Nat.{ℕ, _+_, _-_, _<_}
 use native.Mathlib.Decide.{decLt}
 use native.Mathlib.Omega.{arith}
 use mathlib.Core.Bool.{Bool, true, false, cond, false≢true}
-use mathlib.Core.Path.{_≡_, refl}
+use mathlib.Core.Path.{_≡_, refl, sym}
 use lib.Dec.{ltb}
 use borrow.Author.Tests.{lt-ltb, le-ltb}
 use Rattle.guarantee.specs.History.{Given, Life, dead, alive, count, isLive, incedLife, decedLife}
@@ -13,6 +13,10 @@ module _ {E : Type 0} where
   pub counted-live : (l : Life E) → 0 < count l → isLive l ≡ true
   counted-live dead h = absurd (omega arith)
   counted-live (alive a b g) h = refl
+
+  pub dead-count : (l : Life E) → isLive l ≡ false → count l ≡ 0
+  dead-count dead e = refl
+  dead-count (alive a b g) e = absurd (false≢true (sym e))
 
   pub inced-count : (l : Life E) → 0 < count l → count (incedLife l) ≡ count l + 1
   inced-count dead h = absurd (omega arith)

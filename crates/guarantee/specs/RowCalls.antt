@@ -20,14 +20,11 @@ use Rattle.store_definitions.specs.Parts.{baseOf, tableLength, pointTable, Rows
 use Rattle.store_definitions.specs.Rows.{compactedRows, roomMade, copyOf}
 use Rattle.store_laws.specs.Sound.{Sound, counted-live}
 use Rattle.guarantee.specs.History.{Given, Life, dead, alive, count, isLive, History}
+use Rattle.guarantee.specs.LifeLaws.{dead-count}
 use Rattle.guarantee.specs.Guarantee.{liveIndices}
 use Rattle.guarantee.specs.Relates.{Roomy, CopyStands, Relates}
 use Rattle.guarantee.specs.RoomLaws.{copyIn, compact-copy, compact-free, room-copy, room-length}
 use Rattle.guarantee.specs.SpaceLaws.{points-number}
-
-dead-count : {E : Type 0} (l : Life E) → isLive l ≡ false → count l ≡ 0
-dead-count dead e = refl
-dead-count (alive x y g) e = absurd (false≢true (sym e))
 
 module _ {E : Type 0} (eq : E → E → Bool) (h : Shape) (then : Given E → PointStore E) where
   -- more float space does no harm
