@@ -11,3 +11,5 @@ pub mod AdjustCall
 pub mod RowCalls
 pub mod WindowLaws
 pub mod TableCalls
+pub mod CopyLaws
+pub mod AddCall

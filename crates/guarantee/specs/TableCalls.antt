@@ -52,13 +52,13 @@ module _ {E : Type 0} (eq : E → E → Bool) (h : Shape) (then : Given E → Po
   abbrev after : PointStore E
   after = placed (withPoints t location p) place
 
-  below : i < n
+  pub below : i < n
   below = next-within n t (grown .well) (grown .some)
 
-  whole : indexTaken t .manager .capacity ≡ n
+  pub whole : indexTaken t .manager .capacity ≡ n
   whole = take-keeps n t (grown .well) (grown .some) .whole
 
-  inside : i < length (t .counts)
+  pub inside : i < length (t .counts)
   inside = omega (arith, below, grown .well .lent)
 
   -- the counts of the table are the history's
@@ -86,7 +86,7 @@ module _ {E : Type 0} (eq : E → E → Bool) (h : Shape) (then : Given E → Po
   unfolding copyOf placed
   others-copy k d e = rw (getD-set-other location i k place 65535 d, grown .old-places k (r .live-below k e))
 
-  own-copy : copyOf after i ≡ copied (p .header .«internal_rotation») (p .header .dimensions) (baseOf (p .header)) place (p .memory .store)
+  pub own-copy : copyOf after i ≡ copied (p .header .«internal_rotation») (p .header .dimensions) (baseOf (p .header)) place (p .memory .store)
   unfolding copyOf placed
   own-copy = rw (getD-set-same location i place 65535 (omega (arith, below, grown .places-lent)))
 
