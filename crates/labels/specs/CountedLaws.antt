@@ -15,7 +15,7 @@ use Rattle.interval_store_manager.specs.declared.IntervalStoreManager.{Interval
 use Rattle.interval_store_manager.specs.Intervals.{isFree}
 use Rattle.interval_store_manager.specs.WellFormed.{wellFormed}
 use Rattle.interval_store_manager.specs.Sound.{Sound, sound}
-use Rattle.interval_store_manager.specs.Answers.{Outcome}
+use Rattle.interval_store_manager.specs.Answers.{Outcome, outcome, given, done}
 use Rattle.interval_store_manager.specs.Calls.{taken, released}
 use Rattle.interval_store_manager.specs.GetLaws.{next, next-below, get-keeps, get-free, get-was-free, took}
 use Rattle.interval_store_manager.specs.ReleaseLaws.{gave, release-keeps, release-free}
@@ -188,3 +188,30 @@ lowered-counts t i =
       | yes e ↦ rw (eq-eqb (countAt t i) 1 e)
       | no d ↦ rw (ne-eqb (countAt t i) 1 d)
     ]
+
+-- the two forms of one count less
+pub lowered-released : (t : Counted) (i : ℕ) (r : IntervalStoreManager) (ss es : List ℕ) → countAt t i ≡ 1 → outcome done r ss es ≡ released (t .manager) (t .starts) (t .ends) i → counted r (set (t .counts) i (countAt t i - 1)) ss es ≡ lowered t i
+unfolding lowered
+lowered-released t i r ss es e f =
+    rw (eq-eqb (countAt t i) 1 e) (ap (λ (o : Outcome). counted (o .manager) (set (t .counts) i (countAt t i - 1)) (o .starts) (o .ends)) f)
+
+pub lowered-kept : (t : Counted) (i : ℕ) → (countAt t i ≡ 1 → ⊥) → counted (t .manager) (set (t .counts) i (countAt t i - 1)) (t .starts) (t .ends) ≡ lowered t i
+unfolding lowered
+lowered-kept t i d = rw (ne-eqb (countAt t i) 1 d)
+
+-- the index that the manager's get gives
+given-next : (t : Counted) → taken (t .manager) (t .starts) (t .ends) .answer ≡ given (nextIndex t)
+unfolding taken
+given-next t =
+    let end = next (t .manager .last_in_use) (t .ends) in
+    elim (ℕ-discrete (nextIndex t) end) [ yes e ↦ rw (eq-eqb (nextIndex t) end e) | no d ↦ rw (ne-eqb (nextIndex t) end d) ]
+
+pub index-given : (t : Counted) (i : ℕ) (r : IntervalStoreManager) (ss es : List ℕ) → outcome (given i) r ss es ≡ taken (t .manager) (t .starts) (t .ends) → i ≡ nextIndex t
+index-given t i r ss es e =
+    let f : given i ≡ given (nextIndex t) = ap (λ (o : Outcome). o .answer) e ∙ given-next t in cc
+
+-- and the table after it
+pub index-taken : (t : Counted) (i : ℕ) (r : IntervalStoreManager) (ss es : List ℕ) → outcome (given i) r ss es ≡ taken (t .manager) (t .starts) (t .ends) → counted r (set (t .counts) i 1) ss es ≡ indexTaken t
+unfolding indexTaken
+index-taken t i r ss es e =
+    rw (index-given t i r ss es e) (ap (λ (o : Outcome). counted (o .manager) (set (t .counts) (nextIndex t) 1) (o .starts) (o .ends)) e)

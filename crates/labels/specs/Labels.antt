@@ -32,10 +32,13 @@ labelCountAt l i = countAt (l .labelTable) i
 abbrev pub slotCountAt : Labels → ℕ → ℕ
 slotCountAt l s = countAt (l .attributeTable) s
 
+-- slot s is live and holds the class
+unfoldable pub holdsClass : List ℕ → List ℕ → ℕ → ℕ → Bool
+holdsClass attributes counts class s = ltb 0 (getD counts s 0) && eqb (getD attributes s 0) class
+
 -- the slot of a class 'if live': the first live slot that holds it, or the capacity where none does
 unfoldable pub classSlot : ℕ → List ℕ → List ℕ → ℕ → ℕ
-classSlot capacity attributes counts class =
-    firstBelow capacity (λ s. ltb 0 (getD counts s 0) && eqb (getD attributes s 0) class)
+classSlot capacity attributes counts class = firstBelow capacity (holdsClass attributes counts class)
 
 -- a slot taken, with the classes and the table after it
 pub record SlotTaken : Type 0 where
@@ -55,21 +58,26 @@ pub record LabelTaken : Type 0 where
   pub label : ℕ
   pub after : Labels
 
--- 'A kept add takes an attribute slot .., a label index, .. each with one count more'
-unfoldable pub labelTaken : List ℕ → ℕ → Labels → ℕ → LabelTaken
-labelTaken classes capacity l code =
-    let i = nextIndex (l .labelTable) in
-    let a = slotTaken capacity (l .attributes) (l .attributeTable) (classOf classes code) in
+-- label i gets the code and the slot
+abbrev pub labelled : Labels → ℕ → ℕ → SlotTaken → Counted → LabelTaken
+labelled l code i a labelTable =
     record {
       label = i;
       after = record {
         labels = set (l .labels) i code;
         labelAttributes = set (l .labelAttributes) i (a .slot);
-        labelTable = indexTaken (l .labelTable);
+        labelTable = labelTable;
         attributes = a .attributes;
-        attributeTable = a .table;
-      };
+        attributeTable = a .table
+      }
     }
+
+-- 'A kept add takes an attribute slot .., a label index, .. each with one count more'
+unfoldable pub labelTaken : List ℕ → ℕ → Labels → ℕ → LabelTaken
+labelTaken classes capacity l code =
+    labelled l code (nextIndex (l .labelTable))
+    (slotTaken capacity (l .attributes) (l .attributeTable) (classOf classes code))
+    (indexTaken (l .labelTable))
 
 -- the label half with other counts
 abbrev pub withTables : Labels → Counted → Counted → Labels
@@ -95,9 +103,10 @@ unfoldable pub slotSum : ℕ → List ℕ → List ℕ → ℕ → ℕ
 slotSum capacity slots counts s = sumBelow capacity (λ i. cond (eqb (getD slots i 0) s) (getD counts i 0) 0)
 
 -- of a live label: its code is at most 23 and its slot holds the code's class
-unfoldable pub labelStands : List ℕ → ℕ → Labels → ℕ → Bool
-labelStands classes capacity l i =
-    leb (codeAt l i) 23 && (ltb (slotAt l i) capacity && eqb (classAt l (slotAt l i)) (classOf classes (codeAt l i)))
+unfoldable pub labelStands : List ℕ → ℕ → List ℕ → List ℕ → List ℕ → ℕ → Bool
+labelStands classes capacity labels slots attributes i =
+    leb (getD labels i 0) 23
+    && (ltb (getD slots i 0) capacity && eqb (getD attributes (getD slots i 0) 0) (classOf classes (getD labels i 0)))
 
 -- two live slots, of which one is above the other, hold different classes
 unfoldable pub differ : List ℕ → List ℕ → ℕ → ℕ → Bool
@@ -116,7 +125,7 @@ labelsWell classes capacity l =
     && (leb capacity (length (l .labelAttributes))
     && (leb capacity (length (l .attributes))
     && (everyBelow capacity (λ i. leb (labelCountAt l i) 65535)
-    && (everyBelow capacity (λ i. cond (ltb 0 (labelCountAt l i)) (labelStands classes capacity l i) true)
+    && (everyBelow capacity (λ i. cond (ltb 0 (labelCountAt l i)) (labelStands classes capacity (l .labels) (l .labelAttributes) (l .attributes) i) true)
     && (everyBelow capacity (λ s. everyBelow s (λ t. differ (l .attributes) (l .attributeTable .counts) s t))
     && everyBelow capacity (λ s. eqb (slotCountAt l s) (slotSum capacity (l .labelAttributes) (l .labelTable .counts) s)))))))))
 

@@ -10,3 +10,6 @@ pub mod TakeLaws
 pub mod Opening
 pub mod Decisions
 pub mod Readings
+pub mod ReadingLaws
+pub mod Forms
+pub mod Checks

@@ -5,14 +5,26 @@ use mathlib.Core.Bool.{Bool, cond}
 use lib.ListN.{length, getD, set, replicate}
 use lib.Dec.{eqb}
 use lib.Ieee.{Float, binary32, ofBits}
+use Rattle.terms.specs.Refusals.{number}
 use Rattle.labels.specs.Decisions.{inUse}
-use Rattle.labels.specs.Labels.{Labels, codeAt, slotAt, classAt}
+use Rattle.labels.specs.declared.LabelRead.{LabelRead}
+use Rattle.labels.specs.declared.LabelRead.the-variants as atLabel
+use Rattle.labels.specs.declared.VectorRead.{VectorRead}
+use Rattle.labels.specs.declared.VectorRead.the-variants as atVector
 
 -- an answer: the number read, that the slice was written, or a refusal by its number
 pub data Answer : Type 0 where
   holds : ℕ → Answer
   written : Answer
   refused : ℕ → Answer
+
+abbrev pub labelReadMeans : LabelRead → Answer
+labelReadMeans (atLabel.Is n) = holds n
+labelReadMeans (atLabel.Refused r) = refused (number r)
+
+abbrev pub vectorReadMeans : VectorRead → Answer
+vectorReadMeans atVector.Written = written
+vectorReadMeans (atVector.Refused r) = refused (number r)
 
 -- 'label (the code), attribute (its class) and attribute_vec need a label index in use, else 6'
 unfoldable pub labelSpec : Bool → ℕ → List ℕ → List ℕ → ℕ → Answer

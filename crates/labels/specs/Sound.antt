@@ -35,7 +35,7 @@ pub record Sound (classes : List ℕ) (capacity : ℕ) (l : Labels) : Type 0 whe
   pub distinct : Distinct capacity (l .attributes) (l .attributeTable .counts)
   pub sums : (s : ℕ) → s < capacity → slotCountAt l s ≡ slotSum capacity (l .labelAttributes) (l .labelTable .counts) s
 
-pub label-stands : (classes : List ℕ) (c : ℕ) (l : Labels) (i : ℕ) → labelStands classes c l i ≡ true → Stands classes c l i
+pub label-stands : (classes : List ℕ) (c : ℕ) (l : Labels) (i : ℕ) → labelStands classes c (l .labels) (l .labelAttributes) (l .attributes) i ≡ true → Stands classes c l i
 unfolding labelStands
 label-stands classes c l i e =
     let p = both (leb (codeAt l i) 23) _ e in
@@ -46,7 +46,7 @@ label-stands classes c l i e =
       slot-class = eqb-true (classAt l (slotAt l i)) (classOf classes (codeAt l i)) (q .1);
     }
 
-pub label-stands-make : (classes : List ℕ) (c : ℕ) (l : Labels) (i : ℕ) → Stands classes c l i → labelStands classes c l i ≡ true
+pub label-stands-make : (classes : List ℕ) (c : ℕ) (l : Labels) (i : ℕ) → Stands classes c l i → labelStands classes c (l .labels) (l .labelAttributes) (l .attributes) i ≡ true
 unfolding labelStands
 label-stands-make classes c l i s =
     and-make _ _ (le-leb (codeAt l i) 23 (s .code-most))
@@ -54,11 +54,11 @@ label-stands-make classes c l i s =
     (eq-eqb (classAt l (slotAt l i)) (classOf classes (codeAt l i)) (s .slot-class)))
 
 -- a test that is asked only where another holds
-asked : (a b : Bool) → cond a b true ≡ true → a ≡ true → b ≡ true
+pub asked : (a b : Bool) → cond a b true ≡ true → a ≡ true → b ≡ true
 asked true b e h = e
 asked false b e h = absurd (let z : _≡_ {A = ℕ} 0 1 = cc in omega arith)
 
-asked-make : (a b : Bool) → (a ≡ true → b ≡ true) → cond a b true ≡ true
+pub asked-make : (a b : Bool) → (a ≡ true → b ≡ true) → cond a b true ≡ true
 asked-make true b f = f refl
 asked-make false b f = refl
 
@@ -79,7 +79,7 @@ differ-yes held cs s t f = when (ltb 0 (getD cs s 0)) (ltb 0 (getD cs t 0)) (eqb
 abbrev pub allDiffer : ℕ → List ℕ → List ℕ → Bool
 allDiffer c held cs = everyBelow c (λ s. everyBelow s (λ t. differ held cs s t))
 
-distinct-from : (c : ℕ) (held cs : List ℕ) → allDiffer c held cs ≡ true → Distinct c held cs
+pub distinct-from : (c : ℕ) (held cs : List ℕ) → allDiffer c held cs ≡ true → Distinct c held cs
 distinct-from c held cs e s t l m u v q =
     let clash : (a b : ℕ) → a < c → b < a → 0 < getD cs a 0 → 0 < getD cs b 0 → getD held a 0 ≡ getD held b 0 → ⊥ = λ a b k j x y z.
     let yes : differ held cs a b ≡ true =
@@ -93,7 +93,7 @@ distinct-from c held cs e s t l m u v q =
       | no g ↦ elim (decLt t s) [ yes h ↦ absurd (clash s t l h u v q) | no f ↦ omega arith ]
     ]
 
-distinct-make : (c : ℕ) (held cs : List ℕ) → Distinct c held cs → allDiffer c held cs ≡ true
+pub distinct-make : (c : ℕ) (held cs : List ℕ) → Distinct c held cs → allDiffer c held cs ≡ true
 distinct-make c held cs d =
     every-make c (λ s. everyBelow s (λ t. differ held cs s t))
     (λ s l. every-make s (λ t. differ held cs s t) (λ t m. differ-yes held cs s t (λ u v q. omega (arith, d s t l (omega arith) u v q))))
@@ -118,8 +118,8 @@ sound classes c l e =
       count-most = λ i m. leb-true (labelCountAt l i) 65535 (every-at c (λ k. leb (labelCountAt l k) 65535) (p6 .0) i m);
       stands = λ i m u.
           label-stands classes c l i
-          (asked (ltb 0 (labelCountAt l i)) (labelStands classes c l i)
-          (every-at c (λ k. cond (ltb 0 (labelCountAt l k)) (labelStands classes c l k) true) (p7 .0) i m)
+          (asked (ltb 0 (labelCountAt l i)) (labelStands classes c (l .labels) (l .labelAttributes) (l .attributes) i)
+          (every-at c (λ k. cond (ltb 0 (labelCountAt l k)) (labelStands classes c (l .labels) (l .labelAttributes) (l .attributes) k) true) (p7 .0) i m)
           (lt-ltb 0 (labelCountAt l i) u));
       distinct = distinct-from c (l .attributes) (l .attributeTable .counts) (p8 .0);
       sums = λ s m.
@@ -138,9 +138,9 @@ sound-make classes c l s =
     (and-make _ _
     (every-make c (λ k. leb (labelCountAt l k) 65535) (λ i m. le-leb (labelCountAt l i) 65535 (s .count-most i m)))
     (and-make _ _
-    (every-make c (λ k. cond (ltb 0 (labelCountAt l k)) (labelStands classes c l k) true)
+    (every-make c (λ k. cond (ltb 0 (labelCountAt l k)) (labelStands classes c (l .labels) (l .labelAttributes) (l .attributes) k) true)
     (λ i m.
-    asked-make (ltb 0 (labelCountAt l i)) (labelStands classes c l i)
+    asked-make (ltb 0 (labelCountAt l i)) (labelStands classes c (l .labels) (l .labelAttributes) (l .attributes) i)
     (λ u. label-stands-make classes c l i (s .stands i m (ltb-true 0 (labelCountAt l i) u)))))
     (and-make _ _ (distinct-make c (l .attributes) (l .attributeTable .counts) (s .distinct))
     (every-make c (λ k. eqb (slotCountAt l k) (slotSum c (l .labelAttributes) (l .labelTable .counts) k))

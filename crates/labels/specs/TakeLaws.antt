@@ -3,15 +3,18 @@ use Prim.Native.Nat.{ℕ, _+_, _≤_, _<_}
 use native.Mathlib.Omega.{arith}
 use native.Mathlib.Decide.{ℕ-discrete}
 use mathlib.Core.List.{List}
-use mathlib.Core.Path.{_≡_, refl, sym, _∙_}
+use mathlib.Core.Path.{_≡_, refl, sym, _∙_, ap}
 use lib.ListN.{length, getD, set, length-set}
 use lib.Seq.{getD-set-same, getD-set-other}
 use lib.Dec.{eqb}
 use Rattle.terms.specs.Below.{one}
 use Rattle.labels.specs.Classes.{classOf}
-use Rattle.labels.specs.Counted.{Counted, countAt, nextIndex, indexTaken}
-use Rattle.labels.specs.CountedLaws.{WellCounted, stored, take-keeps, next-within, next-unused}
-use Rattle.labels.specs.Labels.{Labels, codeAt, slotAt, classAt, labelCountAt, slotCountAt, SlotTaken, slotTaken, LabelTaken, labelTaken, slotSum}
+use Rattle.interval_store_manager.specs.declared.IntervalStoreManager.{IntervalStoreManager}
+use Rattle.interval_store_manager.specs.Answers.{outcome, given}
+use Rattle.interval_store_manager.specs.Calls.{taken}
+use Rattle.labels.specs.Counted.{Counted, counted, countAt, nextIndex, indexTaken}
+use Rattle.labels.specs.CountedLaws.{WellCounted, stored, take-keeps, next-within, next-unused, index-given, index-taken}
+use Rattle.labels.specs.Labels.{Labels, codeAt, slotAt, classAt, labelCountAt, slotCountAt, SlotTaken, slotTaken, LabelTaken, labelled, labelTaken, slotSum}
 use Rattle.labels.specs.Sound.{Stands, Distinct, Sound}
 use Rattle.labels.specs.SlotLaws.{sum-labelled, slot-counts, slot-free}
 use Rattle.labels.specs.TakeSlotLaws.{Took, slot-took}
@@ -103,3 +106,12 @@ module _ (classes : List ℕ) (c : ℕ) (l : Labels) (w : Sound classes c l) (co
   pub code-given : codeAt after i ≡ code
   unfolding labelTaken
   code-given = getD-set-same (l .labels) i code 0 (omega (arith, below, w .codes-lent))
+
+-- a label taken part by part
+pub taken-label : (classes : List ℕ) (c : ℕ) (l : Labels) (code class : ℕ) → class ≡ classOf classes code → (a : SlotTaken) → a ≡ slotTaken c (l .attributes) (l .attributeTable) class → (i : ℕ) (r : IntervalStoreManager) (ss es : List ℕ) → outcome (given i) r ss es ≡ taken (l .labelTable .manager) (l .labelTable .starts) (l .labelTable .ends) → labelled l code i a (counted r (set (l .labelTable .counts) i 1) ss es) ≡ labelTaken classes c l code
+unfolding labelTaken
+taken-label classes c l code class k a e i r ss es f =
+    ap (λ (t : Counted). labelled l code i a t) (index-taken (l .labelTable) i r ss es f)
+    ∙ (ap (λ (n : ℕ). labelled l code n a (indexTaken (l .labelTable))) (index-given (l .labelTable) i r ss es f)
+    ∙ ap (λ (s : SlotTaken). labelled l code (nextIndex (l .labelTable)) s (indexTaken (l .labelTable)))
+      (e ∙ ap (λ (n : ℕ). slotTaken c (l .attributes) (l .attributeTable) n) k))

@@ -3,17 +3,20 @@ use Prim.Native.Nat.{ℕ, _+_, _≤_, _<_}
 use native.Mathlib.Omega.{arith}
 use native.Mathlib.Decide.{decLt, ℕ-discrete}
 use mathlib.Core.List.{List}
-use mathlib.Core.Bool.{Bool, true, false, cond, _&&_}
-use mathlib.Core.Path.{_≡_, refl, sym, _∙_}
+use mathlib.Core.Bool.{Bool, true, false, cond, _&&_, and-false}
+use mathlib.Core.Path.{_≡_, refl, sym, _∙_, ap₂}
 use lib.ListN.{length, getD, set, length-set}
 use lib.Seq.{getD-set-same, getD-set-other}
 use lib.Dec.{ltb, eqb}
 use borrow.Author.Tests.{eq-eqb, ne-eqb, eqb-true, lt-ltb, le-ltb, ltb-true}
 use Rattle.terms.specs.Below.{one, both}
-use Rattle.terms.specs.Search.{First, first}
-use Rattle.labels.specs.Counted.{Counted, countAt, nextIndex, indexTaken, raised}
-use Rattle.labels.specs.CountedLaws.{WellCounted, stored, raise-keeps, take-keeps, next-within, next-unused}
-use Rattle.labels.specs.Labels.{classSlot, SlotTaken, slotTaken}
+use Rattle.terms.specs.Search.{First, first, first-is}
+use Rattle.interval_store_manager.specs.declared.IntervalStoreManager.{IntervalStoreManager}
+use Rattle.interval_store_manager.specs.Answers.{outcome, given}
+use Rattle.interval_store_manager.specs.Calls.{taken}
+use Rattle.labels.specs.Counted.{Counted, counted, countAt, nextIndex, indexTaken, raised}
+use Rattle.labels.specs.CountedLaws.{WellCounted, stored, raise-keeps, take-keeps, next-within, next-unused, index-given, index-taken}
+use Rattle.labels.specs.Labels.{holdsClass, classSlot, SlotTaken, slotTaken}
 use Rattle.labels.specs.Sound.{Distinct}
 
 -- what taking a slot leaves
@@ -26,16 +29,49 @@ pub record Took (capacity : ℕ) (attributes : List ℕ) (t : Counted) (class : 
   pub others : (s : ℕ) → 0 < countAt t s → getD (o .attributes) s 0 ≡ getD attributes s 0
   pub distinct : Distinct capacity (o .attributes) (o .table .counts)
 
-module _ (c : ℕ) (held : List ℕ) (t : Counted) (class : ℕ) (w : WellCounted c t) (g : c ≤ length held) (d : Distinct c held (t .counts)) where
-  holdsClass : ℕ → Bool
-  holdsClass s = ltb 0 (countAt t s) && eqb (getD held s 0) class
+-- a slot that is not live, or holds another class
+pub not-live : (held counts : List ℕ) (class s : ℕ) → getD counts s 0 ≤ 0 → holdsClass held counts class s ≡ false
+unfolding holdsClass
+not-live held counts class s h = rw (le-ltb 0 (getD counts s 0) h)
 
+pub other-class : (held counts : List ℕ) (class s : ℕ) → (getD held s 0 ≡ class → ⊥) → holdsClass held counts class s ≡ false
+unfolding holdsClass
+other-class held counts class s d = rw (ne-eqb (getD held s 0) class d) (and-false (ltb 0 (getD counts s 0)))
+
+-- a search from the front finds the slot of the class, or passes them all
+module _ (c : ℕ) (held counts : List ℕ) (class : ℕ) where
+  pub class-found : (i : ℕ) → i < c → 0 < getD counts i 0 → getD held i 0 ≡ class → ((k : ℕ) → k < i → holdsClass held counts class k ≡ false) → i ≡ classSlot c held counts class
+  unfolding classSlot holdsClass
+  class-found i l u e f =
+      sym (first-is c (holdsClass held counts class) i
+      (record { within = omega arith; passes = λ m. rw (lt-ltb 0 (getD counts i 0) u, eq-eqb (getD held i 0) class e); none-before = f }))
+
+  pub class-none : ((k : ℕ) → k < c → holdsClass held counts class k ≡ false) → c ≡ classSlot c held counts class
+  unfolding classSlot
+  class-none f =
+      sym (first-is c (holdsClass held counts class) c
+      (record { within = omega arith; passes = λ m. absurd (omega arith); none-before = f }))
+
+-- the two forms of taking a slot
+module _ (c : ℕ) (held : List ℕ) (t : Counted) (class live : ℕ) (q : live ≡ classSlot c held (t .counts) class) where
+  pub taken-live : live < c → record { slot = live; attributes = held; table = counted (t .manager) (set (t .counts) live (countAt t live + 1)) (t .starts) (t .ends) } ≡ slotTaken c held t class
+  unfolding slotTaken raised
+  taken-live h = rw (sym q, lt-ltb live c h)
+
+  pub taken-new : (a : ℕ) (r : IntervalStoreManager) (ss es : List ℕ) → c ≤ live → outcome (given a) r ss es ≡ taken (t .manager) (t .starts) (t .ends) → record { slot = a; attributes = set held a class; table = counted r (set (t .counts) a 1) ss es } ≡ slotTaken c held t class
+  unfolding slotTaken
+  taken-new a r ss es h e =
+      rw (sym q, le-ltb live c h)
+      (let i = index-given t a r ss es e in
+      ap₂ (λ (n : ℕ) (x : Counted). record { slot = n; attributes = set held n class; table = x }) i (index-taken t a r ss es e))
+
+module _ (c : ℕ) (held : List ℕ) (t : Counted) (class : ℕ) (w : WellCounted c t) (g : c ≤ length held) (d : Distinct c held (t .counts)) where
   abbrev r : ℕ
   r = classSlot c held (t .counts) class
 
-  is-first : First c holdsClass r
-  unfolding classSlot holdsClass
-  is-first = first c holdsClass
+  is-first : First c (holdsClass held (t .counts) class) r
+  unfolding classSlot
+  is-first = first c (holdsClass held (t .counts) class)
 
   -- the class is held by a live slot
   module _ (h : r < c) where
@@ -82,7 +118,7 @@ module _ (c : ℕ) (held : List ℕ) (t : Counted) (class : ℕ) (w : WellCounte
     unfolding holdsClass
     not-held s l u e =
         let no = is-first .none-before s (omega arith) in
-        let yes : holdsClass s ≡ true = rw (lt-ltb 0 (countAt t s) u, eq-eqb (getD held s 0) class e) in
+        let yes : holdsClass held (t .counts) class s ≡ true = rw (lt-ltb 0 (countAt t s) u, eq-eqb (getD held s 0) class e) in
         let q : true ≡ false = sym yes ∙ no in
         let z : _≡_ {A = ℕ} 0 1 = cc in
         omega arith

@@ -1,7 +1,21 @@
 // The label half of document 01's store: reason classes, label indices and attribute slots, over lent slices, two interval
-// managers and the capacity. The store's calls sequence it with the points.
+// managers and the capacity. The store's calls sequence it with the points. Decisions, readings and the check take any
+// slices; taking, inc and dec are for callers that have checked.
+mod classes;
+mod count;
+mod decide;
+mod entry;
+mod read;
+mod take;
+
 use interval_store_manager::IntervalStoreManager;
-use terms::LabelIndex;
+use terms::{LabelIndex, Refusal};
+
+pub use classes::{class_of, reason_classes};
+pub use count::{dec_label, inc_label};
+pub use decide::{code_decision, dec_decision, inc_decision, label_in_use, room_decision};
+pub use read::{attribute, attribute_vec, label};
+pub use take::take_label;
 
 // The managers of the label indices and of the attribute slots.
 pub struct LabelManagers {
@@ -13,4 +27,16 @@ pub struct LabelManagers {
 pub struct TakenLabel {
     pub label: LabelIndex,
     pub managers: LabelManagers,
+}
+
+// What a reading of a label's code or class finds.
+pub enum LabelRead {
+    Is(u8),
+    Refused(Refusal),
+}
+
+// What attribute_vec answers.
+pub enum VectorRead {
+    Written,
+    Refused(Refusal),
 }

@@ -1,0 +1,1 @@
+//! Stands in for the crate of this name, of which the Rust uses nothing.
