@@ -40,7 +40,7 @@ use Rattle.store_laws.specs.PointsLaws.{with-labels}
 use Rattle.store_laws.specs.Lengths.{by-cases}
 use Rattle.store_laws.specs.TableLaws.{filled-length, filled-before, filled-new, as-it-is, grown-ready}
 use Rattle.store_laws.specs.LaidLaws.{laying}
-use Rattle.store_laws.specs.AddingLaws.{Kept, row-length, can-grow}
+use Rattle.store_laws.specs.AddingLaws.{Kept, row-length, can-grow, kept-sound}
 use Rattle.guarantee.specs.History.{Given, History, isLive, gave, changed as changedHistory, joinedPoints, rowOfAdd, withPoints as withAccepted}
 use Rattle.guarantee.specs.Relates.{CopyStands, Relates}
 use Rattle.guarantee.specs.RoomLaws.{copyIn, room-copy, room-length}
@@ -209,9 +209,44 @@ module _ {E : Type 0} (eq : E → E → Bool) (zeroElement : E) (h : Shape) (the
         -- with any table that is ready for it
         table-kept : (n : ℕ) (t : Counted) (location : List ℕ) → Grown laid n t location → then g ≡ placed (withPoints t location laid) place → Sound (placed (withPoints t location laid) place) → Relates eq h then (changedHistory g (gave (nextIndex t)) accepted) (placed (withPoints t location laid) place)
         unfolding laidRows sequenced
-        table-kept n t location ready now x =
-            index-kept eq h then accepted laid laid-kept n t location ready g place
-            (record {
-              as-then = λ out. ?as;
-              row = rw (of-row, of-place) new-copy;
-            })
+        table-kept n t location ready now sound =
+            index-kept eq h then accepted laid laid-kept n t location ready g place now sound (rw (of-row, of-place) new-copy)
+
+        -- with the table as it was, or grown
+        grown-kept : then g ≡ placed (tableGrown laid) place → Sound (placed (tableGrown laid) place) → Relates eq h then (changedHistory g (gave (nextIndex (pointTable (tableGrown laid)))) accepted) (placed (tableGrown laid) place)
+        unfolding tableGrown sequenced
+        grown-kept =
+            by-cases (λ q. then g ≡ placed q place → Sound (placed q place) → Relates eq h then (changedHistory g (gave (nextIndex (pointTable q))) accepted) (placed q place))
+            (eqb (u .«index_manager» .last_in_use) 0)
+            (withPoints grownTable (entriesFilled (tableLength u) longer 65535 (laid .memory .location)) laid)
+            laid
+            (λ e. table-kept longer grownTable (entriesFilled (tableLength u) longer 65535 (laid .memory .location)) (grown-table (eqb-true (u .«index_manager» .last_in_use) 0 e)))
+            (λ e. table-kept (tableLength u) (pointTable laid) (laid .memory .location) (same-table (positive (u .«index_manager» .last_in_use) (eqb-false (u .«index_manager» .last_in_use) 0 e))))
+
+        -- the index is the one in the answer
+        given : nextIndex (pointTable (tableGrown laid)) ≡ indexGiven eq zeroElement p
+        unfolding tableGrown sequenced indexGiven
+        given = go (eqb (u .«index_manager» .last_in_use) 0)
+          where
+            go : (b : Bool) → nextIndex (pointTable (cond b (withPoints grownTable (entriesFilled (tableLength u) longer 65535 (laid .memory .location)) laid) laid)) ≡ nextIndex (pointTable (cond b (withPoints grownTable (entriesFilled (tableLength u) longer 65535 (p .memory .location)) p) p))
+            go true = refl
+            go false = refl
+
+        laid-given : then g ≡ placed (tableGrown laid) place → Sound (placed (tableGrown laid) place) → Relates eq h then (changedHistory g (gave (indexGiven eq zeroElement p)) accepted) (placed (tableGrown laid) place)
+        laid-given now sound =
+            subst (λ (i : ℕ). Relates eq h then (changedHistory g (gave i) accepted) (placed (tableGrown laid) place)) given (grown-kept now sound)
+
+    -- a kept add, with its label or without one
+    pub add-kept : (g : Given E) → g .row ≡ rowOfAdd h (point ∷ s .points) → g .place ≡ place → then g ≡ keptAfter eq zeroElement p point code
+        → Relates eq h then (changedHistory g (gave (indexGiven eq zeroElement p)) accepted) (keptAfter eq zeroElement p point code)
+    unfolding keptAfter labelled
+    add-kept g of-row of-place now =
+        by-cases (λ q. then g ≡ placed (tableGrown (withRows (laidRows eq u room row) (sequenced q point))) place → Sound (placed (tableGrown (withRows (laidRows eq u room row) (sequenced q point))) place) → Relates eq h then (changedHistory g (gave (indexGiven eq zeroElement p)) accepted) (placed (tableGrown (withRows (laidRows eq u room row) (sequenced q point))) place))
+        (u .«store_labels») (withLabels (labelTaken classTable (u .capacity) (labelHalf p) code .after) p) p
+        (λ on.
+        laid-given (labelTaken classTable (u .capacity) (labelHalf p) code .after)
+        (with-labels p w (labelTaken classTable (u .capacity) (labelHalf p) code .after) (label-keeps classTable (u .capacity) (labelHalf p) (w .labels on) code (k .accepted .coded on) (k .label-free on)))
+        g of-row of-place)
+        (λ off. laid-given (labelHalf p) w g of-row of-place)
+        now
+        (kept-sound eq zeroElement p w point code k fits)

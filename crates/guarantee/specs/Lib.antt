@@ -10,6 +10,6 @@ pub mod SpaceLaws
 pub mod AdjustCall
 pub mod RowCalls
 pub mod WindowLaws
-pub mod TableCalls
 pub mod CopyLaws
+pub mod TableCalls
 pub mod AddCall

@@ -1,5 +1,5 @@
 -- A kept add's index: taken from a table, grown or as it was, it keeps the invariant.
-use Prim.Native.Nat.{ℕ, zero, suc, _+_, _*_, _-_, _≤_, _<_}
+use Prim.Native.Nat.{ℕ, zero, suc, _+_, _*_, _-_, _/_, _≤_, _<_}
 use native.Mathlib.Decide.{decLt, ℕ-discrete}
 use native.Mathlib.Omega.{arith}
 use mathlib.Core.Bool.{Bool, true, false, cond}
@@ -12,7 +12,8 @@ use lib.Dec.{eqb}
 use borrow.Author.Tests.{eq-eqb, ne-eqb}
 use Rattle.terms.specs.Below.{sumBelow, fails, sum-same}
 use Rattle.terms.specs.Sums.{sum-changed}
-use Rattle.placement.specs.Copying.{copied}
+use Rattle.placement.specs.Alike.{Alike}
+use Rattle.placement.specs.Copying.{turn, turned, copied}
 use Rattle.labels.specs.Counted.{Counted, countAt, nextIndex, indexTaken}
 use Rattle.labels.specs.CountedLaws.{WellCounted, next-within, next-unused, take-keeps}
 use Rattle.store_definitions.specs.declared.Shape.{Shape}
@@ -20,9 +21,12 @@ use Rattle.store_definitions.specs.Memory.{PointStore}
 use Rattle.store_definitions.specs.Parts.{baseOf, tableLength, withPoints}
 use Rattle.store_definitions.specs.Rows.{copyOf}
 use Rattle.store_definitions.specs.Adding.{placed}
+use Rattle.store_laws.specs.Sound.{Sound}
+use Rattle.guarantee.specs.Calls.{copyCall}
 use Rattle.guarantee.specs.History.{Given, Life, alive, count, isLive, History, gave, changed}
 use Rattle.guarantee.specs.LifeLaws.{dead-count}
-use Rattle.guarantee.specs.Relates.{Roomy, CopyStands, Relates}
+use Rattle.guarantee.specs.Relates.{copyAnswer, CopyStands, Relates}
+use Rattle.guarantee.specs.CopyLaws.{copy-answer}
 
 -- what is 0 from n up to d adds nothing there
 sum-grown : (n d : ℕ) (f : ℕ → ℕ) → ((i : ℕ) → n ≤ i → i < d → f i ≡ 0) → n ≤ d → sumBelow d f ≡ sumBelow n f
@@ -52,13 +56,13 @@ module _ {E : Type 0} (eq : E → E → Bool) (h : Shape) (then : Given E → Po
   abbrev after : PointStore E
   after = placed (withPoints t location p) place
 
-  pub below : i < n
+  below : i < n
   below = next-within n t (grown .well) (grown .some)
 
-  pub whole : indexTaken t .manager .capacity ≡ n
+  whole : indexTaken t .manager .capacity ≡ n
   whole = take-keeps n t (grown .well) (grown .some) .whole
 
-  pub inside : i < length (t .counts)
+  inside : i < length (t .counts)
   inside = omega (arith, below, grown .well .lent)
 
   -- the counts of the table are the history's
@@ -86,11 +90,32 @@ module _ {E : Type 0} (eq : E → E → Bool) (h : Shape) (then : Given E → Po
   unfolding copyOf placed
   others-copy k d e = rw (getD-set-other location i k place 65535 d, grown .old-places k (r .live-below k e))
 
-  pub own-copy : copyOf after i ≡ copied (p .header .«internal_rotation») (p .header .dimensions) (baseOf (p .header)) place (p .memory .store)
+  own-copy : copyOf after i ≡ copied (p .header .«internal_rotation») (p .header .dimensions) (baseOf (p .header)) place (p .memory .store)
   unfolding copyOf placed
   own-copy = rw (getD-set-same location i place 65535 (omega (arith, below, grown .places-lent)))
 
-  module _ (own : CopyStands eq h then i g (copied (p .header .«internal_rotation») (p .header .dimensions) (baseOf (p .header)) place (p .memory .store))) where
+  -- its copy right after the add
+  module _ (now : then g ≡ after) (sound : Sound after) (row : Alike eq (copied (p .header .«internal_rotation») (p .header .dimensions) (baseOf (p .header)) place (p .memory .store)) (turned (h .dimensions) (turn (h .«internal_rotation») (h .dimensions) (h .dimensions / h .«shingle_size») (g .place)) (g .row))) where
+    listed : i < tableLength (after .header)
+    unfolding placed
+    listed = rw whole below
+
+    counted : 0 < getD (after .memory .referenceCount) i 0
+    unfolding placed indexTaken
+    counted = rw (getD-set-same (t .counts) i 1 0 inside) (omega arith)
+
+    own : CopyStands eq h then i g (copied (p .header .«internal_rotation») (p .header .dimensions) (baseOf (p .header)) place (p .memory .store))
+    unfolding placed
+    own =
+        record {
+          as-then = λ out.
+              ap (λ (q : PointStore E). copyCall q i out) now
+              ∙ copy-answer after sound i listed counted out
+              ∙ ap (λ (d : ℕ). copyAnswer d (copyOf after i) out) (r .fits .dimensions)
+              ∙ ap (λ (c : List E). copyAnswer (h .dimensions) c out) own-copy;
+          row = row;
+        }
+
     roomy : (d l : ℕ) → (5 * d ≤ l) ⊎ ((tableLength (p .header) < 5) × (tableLength (p .header) * d ≤ l)) → (5 * d ≤ l) ⊎ ((n < 5) × (n * d ≤ l))
     roomy d l (inl five) = inl five
     roomy d l (inr few) = inr (rw (grown .short-stays (few .0)) few)
