@@ -11,3 +11,4 @@ pub mod TableLaws
 pub mod LaidLaws
 pub mod AddingLaws
 pub mod OpeningLaws
+pub mod AdjustLaws
