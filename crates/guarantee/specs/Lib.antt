@@ -13,3 +13,4 @@ pub mod WindowLaws
 pub mod CopyLaws
 pub mod TableCalls
 pub mod AddCall
+pub mod EachCallKeeps
