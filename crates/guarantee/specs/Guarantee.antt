@@ -13,7 +13,7 @@ use Rattle.store_definitions.specs.declared.Shape.{Shape}
 use Rattle.store_definitions.specs.Memory.{PointStore}
 use Rattle.store_definitions.specs.Answers.{Answer, kept, waiting, done, is, says, refused, refusedAfter}
 use Rattle.guarantee.specs.Calls.{copyCall, countCall, liveNumberCall, freeStartCall}
-use Rattle.guarantee.specs.Run.{Call, compact, after, answerTo}
+use Rattle.guarantee.specs.Run.{Call, add, inc, dec, adjust, compact, after, answerTo}
 use Rattle.guarantee.specs.History.{Given, Life, dead, alive, count, isLive, History, history}
 
 -- a count call's answer: the count of a live index, and 5 for any other
@@ -58,12 +58,17 @@ module _ {E : Type 0} (eq : E → E → Bool) (zeroElement : E) (h : Shape) (sta
   abbrev pub storeAfter : List (Call E) → PointStore E
   storeAfter calls = after eq zeroElement start calls
 
-  -- (g), (h): a call refused for float space is one with rotation, before which the bound plus dimensions passed the store length
+  -- (g), (h): an add is refused for float space only with rotation, and where the bound plus dimensions, counted before it, passes
+  -- the store length
   abbrev pub SpaceRefusal : Call E → List (Call E) → Type 0
-  SpaceRefusal c before =
-      answerTo eq zeroElement start c before ≡ refused 10
+  SpaceRefusal (add point code) before =
+      answerTo eq zeroElement start (add point code) before ≡ refused 10
       → (h .«internal_rotation» ≡ true)
       × (storeAfter before .header .«store_length» < liveIndices (h .capacity) (past before) * room + h .dimensions)
+  SpaceRefusal (inc i l) before = Unit {0}
+  SpaceRefusal (dec i l) before = Unit {0}
+  SpaceRefusal (adjust pairs) before = Unit {0}
+  SpaceRefusal compact before = Unit {0}
 
   pub record Guarantee (calls : List (Call E)) : Type 0 where
     -- (a) the count call answers for live indices and no others, with one plus incs less decs accepted since the add that last

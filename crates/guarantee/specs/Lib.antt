@@ -14,3 +14,5 @@ pub mod CopyLaws
 pub mod TableCalls
 pub mod AddCall
 pub mod EachCallKeeps
+pub mod Fresh
+pub mod FloatSpace
