@@ -83,9 +83,10 @@ module _ {E : Type 0} (eq : E → E → Bool) (zeroElement : E) (p : PointStore 
     where
       split : (d : AddDecided) → addDecided p point code ≡ d → addCarriedOut eq zeroElement d p point code .answer ≡ refused 10
           → (d ≡ keep) × (overflows eq (p .header) (roomMade zeroElement (p .header) (rowsOf p)) (rowOf p point) ≡ true)
-      split keep e a =
-          (refl,
-          full-room (overflows eq (p .header) (roomMade zeroElement (p .header) (rowsOf p)) (rowOf p point)) (withRows (roomMade zeroElement (p .header) (rowsOf p)) p) (keptAfter eq zeroElement p point code) (indexGiven eq zeroElement p) (labelGiven p) (laidHow eq (p .header) (roomMade zeroElement (p .header) (rowsOf p)) (rowOf p point)) a)
+      split keep e a = (
+        refl,
+        full-room (overflows eq (p .header) (roomMade zeroElement (p .header) (rowsOf p)) (rowOf p point)) (withRows (roomMade zeroElement (p .header) (rowsOf p)) p) (keptAfter eq zeroElement p point code) (indexGiven eq zeroElement p) (labelGiven p) (laidHow eq (p .header) (roomMade zeroElement (p .header) (rowsOf p)) (rowOf p point)) a,
+      )
       split wait e a = absurd (let z : _≡_ {A = ℕ} 0 1 = cc in omega arith)
       split (refuseAdd n) e a = absurd (decided-not-ten f (e ∙ ap refuseAdd (let q : n ≡ 10 = cc in q)))
 
@@ -96,9 +97,10 @@ module _ {E : Type 0} (eq : E → E → Bool) (zeroElement : E) (p : PointStore 
     space-refusal e =
         let w = sound p f in
         let t = ten f e in
-        let k = keeps-on p point code (t .0) in
-        (turns (h .«internal_rotation») refl (λ off. unturned-fits p w zeroElement eq (rowOf p point) (t .1) (r .fits .rotation ∙ off) (k .not-full) (r .space)),
-        rw (live-number-is eq h then s p w r, ← (r .fits .dimensions), ← (r .fits .shingle), ← (r .fits .rotation)) (refused-bound p w zeroElement eq (rowOf p point) (t .1)))
+        let k = keeps-on p point code (t .0) in (
+          turns (h .«internal_rotation») refl (λ off. unturned-fits p w zeroElement eq (rowOf p point) (t .1) (r .fits .rotation ∙ off) (k .not-full) (r .space)),
+          rw (live-number-is eq h then s p w r, ← (r .fits .dimensions), ← (r .fits .shingle), ← (r .fits .rotation)) (refused-bound p w zeroElement eq (rowOf p point) (t .1)),
+        )
       where
         turns : (b : Bool) → h .«internal_rotation» ≡ b → (h .«internal_rotation» ≡ false → ⊥) → h .«internal_rotation» ≡ true
         turns true e g = e

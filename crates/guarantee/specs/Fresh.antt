@@ -15,7 +15,7 @@ use Rattle.store_definitions.specs.Memory.{Memory, PointStore}
 use Rattle.store_definitions.specs.Parts.{labelHalf}
 use Rattle.store_definitions.specs.Opening.{freshRecord, filledFirst, openedMemory, opened}
 use Rattle.labels.specs.Opening.{labelsOpened}
-use Rattle.store_laws.specs.OpeningLaws.{filled-at}
+use Rattle.store_laws.specs.OpeningLaws.{filled-length, filled-at}
 use Rattle.guarantee.specs.History.{Given, dead, alive, nothing, joinedPoints}
 use Rattle.guarantee.specs.Relates.{Relates}
 use Rattle.guarantee.specs.CountCalls.{labels-aside}
@@ -35,7 +35,7 @@ module _ {E : Type 0} (eq : E → E → Bool) (zeroElement : E) (h : Shape) (m :
   never : {A : Type 0} {x y : ℕ} {g : Given E} → dead ≡ alive x y g → A
   never e = absurd (let z : _≡_ {A = ℕ} 0 1 = cc in omega arith)
 
-  pub fresh : h .dimensions ≤ length (filledFirst (h .dimensions) zeroElement (m .lastKnownShingle)) → Relates eq h then nothing (opened zeroElement h m)
+  pub fresh : h .dimensions ≤ length (m .lastKnownShingle) → Relates eq h then nothing (opened zeroElement h m)
   unfolding opened openedMemory joinedPoints
   fresh window =
       labels-aside eq h then (h .«store_labels») nothing (labelsOpened (h .capacity) (labelHalf bare)) bare
@@ -47,7 +47,7 @@ module _ {E : Type 0} (eq : E → E → Bool) (zeroElement : E) (h : Shape) (m :
         sum = omega (arith, sum-same (h .«initial_capacity») (λ i. getD (filledFirst (h .«initial_capacity») 0 (m .referenceCount)) i 0) (λ i. 0) (λ i l. filled-at (h .«initial_capacity») 0 (m .referenceCount) i 0 l) ∙ sum-zeros (h .«initial_capacity»));
         copies = λ i g since. never (since .2);
         sequence = refl;
-        window = λ on k l none. no-points (h .dimensions) (h .dimensions / h .«shingle_size») (filledFirst (h .dimensions) zeroElement (m .lastKnownShingle)) window k none;
+        window = λ on k l none. no-points (h .dimensions) (h .dimensions / h .«shingle_size») (filledFirst (h .dimensions) zeroElement (m .lastKnownShingle)) (rw (filled-length (h .dimensions) zeroElement (m .lastKnownShingle) window) window) k none;
         space = start-room (h .«initial_capacity») (h .dimensions);
       })
     where

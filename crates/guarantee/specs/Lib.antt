@@ -16,3 +16,4 @@ pub mod AddCall
 pub mod EachCallKeeps
 pub mod Fresh
 pub mod FloatSpace
+pub mod Theorem

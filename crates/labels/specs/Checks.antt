@@ -116,25 +116,25 @@ module _ (classes : List ℕ) (c : ℕ) (l : Labels) (labelMarks slotMarks sums 
             managed = lw;
             whole = lc;
             lent = leb-true c (length (l .labelTable .counts)) (t3 .0);
-            free-is = λ i m. mark-free (l .labelTable) labelMarks i lm (label-parts i (every-at c passes p i m) .0)
+            free-is = λ i m. mark-free (l .labelTable) labelMarks i lm (label-parts i (every-at c passes p i m) .0);
           };
           slot-table = record {
             managed = sw;
             whole = sc;
             lent = leb-true c (length (l .attributeTable .counts)) (t4 .1);
-            free-is = λ s m. mark-free (l .attributeTable) slotMarks s sm (slot-parts s (every-at c fits f s m) .1 .0)
+            free-is = λ s m. mark-free (l .attributeTable) slotMarks s sm (slot-parts s (every-at c fits f s m) .1 .0);
           };
           codes-lent = leb-true c (length (l .labels)) (t1 .0);
           slots-lent = leb-true c (length (l .labelAttributes)) (t2 .0);
           classes-lent = leb-true c (length (l .attributes)) (t4 .0);
           count-most = λ i m. most i;
           stands = λ i m u.
-            label-stands classes c l i
-            (asked (ltb 0 (labelCountAt l i)) (labelStands classes c (l .labels) (l .labelAttributes) (l .attributes) i)
-            (label-parts i (every-at c passes p i m) .1) (lt-ltb 0 (labelCountAt l i) u));
+              label-stands classes c l i
+              (asked (ltb 0 (labelCountAt l i)) (labelStands classes c (l .labels) (l .labelAttributes) (l .attributes) i)
+              (label-parts i (every-at c passes p i m) .1) (lt-ltb 0 (labelCountAt l i) u));
           distinct =
-            distinct-from c (l .attributes) (l .attributeTable .counts)
-            (every-make c (λ a. everyBelow a (λ b. differ (l .attributes) (l .attributeTable .counts) a b)) (λ s m. slot-parts s (every-at c fits f s m) .1 .1));
+              distinct-from c (l .attributes) (l .attributeTable .counts)
+              (every-make c (λ a. everyBelow a (λ b. differ (l .attributes) (l .attributeTable .counts) a b)) (λ s m. slot-parts s (every-at c fits f s m) .1 .1));
           sums = λ s m.
-            eqb-true (slotCountAt l s) (getD sums s 0) (slot-parts s (every-at c fits f s m) .0) ∙ e s (omega arith)
+              eqb-true (slotCountAt l s) (getD sums s 0) (slot-parts s (every-at c fits f s m) .0) ∙ e s (omega arith);
         })

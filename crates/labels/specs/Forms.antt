@@ -26,7 +26,7 @@ labelHalf m labels slots counts starts ends classes slotCounts slotStarts slotEn
       labelAttributes = slots;
       labelTable = counted (m .«label_manager») counts starts ends;
       attributes = classes;
-      attributeTable = counted (m .«attribute_manager») slotCounts slotStarts slotEnds
+      attributeTable = counted (m .«attribute_manager») slotCounts slotStarts slotEnds;
     }
 
 -- where a call is asked for, when it began, and when it ended

@@ -68,8 +68,8 @@ labelled l code i a labelTable =
         labelAttributes = set (l .labelAttributes) i (a .slot);
         labelTable = labelTable;
         attributes = a .attributes;
-        attributeTable = a .table
-      }
+        attributeTable = a .table;
+      };
     }
 
 -- 'A kept add takes an attribute slot .., a label index, .. each with one count more'

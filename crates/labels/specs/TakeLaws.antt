@@ -114,4 +114,4 @@ taken-label classes c l code class k a e i r ss es f =
     ap (λ (t : Counted). labelled l code i a t) (index-taken (l .labelTable) i r ss es f)
     ∙ (ap (λ (n : ℕ). labelled l code n a (indexTaken (l .labelTable))) (index-given (l .labelTable) i r ss es f)
     ∙ ap (λ (s : SlotTaken). labelled l code (nextIndex (l .labelTable)) s (indexTaken (l .labelTable)))
-      (e ∙ ap (λ (n : ℕ). slotTaken c (l .attributes) (l .attributeTable) n) k))
+    (e ∙ ap (λ (n : ℕ). slotTaken c (l .attributes) (l .attributeTable) n) k))

@@ -4,7 +4,30 @@ ghost use Prim.Native.Nat.{_≤_};
 ghost use Rattle.labels.specs.Classes.{classOf, reasonClasses};
 
 const REASON_CLASSES: [u8; 24] = [
-    0, 0, 0, 1, 1, 2, 2, 2, 3, 3, 4, 4, 5, 5, 5, 6, 6, 6, 7, 7, 8, 8, 9, 9,
+    0,
+    0,
+    0,
+    1,
+    1,
+    2,
+    2,
+    2,
+    3,
+    3,
+    4,
+    4,
+    5,
+    5,
+    5,
+    6,
+    6,
+    6,
+    7,
+    7,
+    8,
+    8,
+    9,
+    9,
 ];
 
 pub fn reason_classes() -> [u8; 24]

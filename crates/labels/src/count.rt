@@ -7,7 +7,6 @@ ghost use lib.ListN.{getD};
 ghost use Rattle.labels.specs.Counted.{counted, lowered};
 ghost use Rattle.labels.specs.Labels.{labelsWell, labelRaised, labelLowered};
 ghost use Rattle.labels.specs.Forms.{InUse, held, entered, left};
-
 use crate::LabelManagers;
 use interval_store_manager::IntervalStoreManager;
 use terms::LabelIndex;
@@ -37,7 +36,14 @@ pub fn inc_label(
 }
 
 // One count less of a label index.
-fn lower_label(capacity: usize, manager: IntervalStoreManager, label_count: &mut [u16], label_starts: &mut [u16], label_ends: &mut [u16], i: usize) -> IntervalStoreManager
+fn lower_label(
+    capacity: usize,
+    manager: IntervalStoreManager,
+    label_count: &mut [u16],
+    label_starts: &mut [u16],
+    label_ends: &mut [u16],
+    i: usize,
+) -> IntervalStoreManager
     requires { ⌜ InUse capacity (counted manager (now «label_count») (now «label_starts») (now «label_ends»)) i ⌝ }
     ensures { λ r. ⌜ counted r (now («label_count» .exit)) (now («label_starts» .exit)) (now («label_ends» .exit)) ≡ lowered (counted manager (now («label_count» .entry)) (now («label_starts» .entry)) (now («label_ends» .entry))) i ⌝ }
 {
@@ -50,7 +56,14 @@ fn lower_label(capacity: usize, manager: IntervalStoreManager, label_count: &mut
 }
 
 // One count less of a slot.
-fn lower_slot(capacity: usize, manager: IntervalStoreManager, attribute_count: &mut [u32], attribute_starts: &mut [u16], attribute_ends: &mut [u16], slot: usize) -> IntervalStoreManager
+fn lower_slot(
+    capacity: usize,
+    manager: IntervalStoreManager,
+    attribute_count: &mut [u32],
+    attribute_starts: &mut [u16],
+    attribute_ends: &mut [u16],
+    slot: usize,
+) -> IntervalStoreManager
     requires { ⌜ InUse capacity (counted manager (now «attribute_count») (now «attribute_starts») (now «attribute_ends»)) slot ⌝ }
     ensures { λ r. ⌜ counted r (now («attribute_count» .exit)) (now («attribute_starts» .exit)) (now («attribute_ends» .exit)) ≡ lowered (counted manager (now («attribute_count» .entry)) (now («attribute_starts» .entry)) (now («attribute_ends» .entry))) slot ⌝ }
 {
@@ -83,9 +96,23 @@ pub fn dec_label(
     let i = label.0;
     let slot = label_attributes[i] as usize;
     let index_manager = managers.label_manager;
-    let label_manager = lower_label(capacity, index_manager, label_count, label_starts, label_ends, i);
+    let label_manager = lower_label(
+        capacity,
+        index_manager,
+        label_count,
+        label_starts,
+        label_ends,
+        i,
+    );
     let slot_manager = managers.attribute_manager;
-    let attribute_manager = lower_slot(capacity, slot_manager, attribute_count, attribute_starts, attribute_ends, slot);
+    let attribute_manager = lower_slot(
+        capacity,
+        slot_manager,
+        attribute_count,
+        attribute_starts,
+        attribute_ends,
+        slot,
+    );
     LabelManagers {
         label_manager,
         attribute_manager,

@@ -2,16 +2,24 @@
 ghost use mathlib.Core.Path.{_≡_};
 ghost use Rattle.interval_store_manager.specs.Calls.{decisionMeans};
 ghost use Rattle.labels.specs.Decisions.{inUse, codeDecided, roomDecided, incDecided, decDecided};
-
 use crate::entry::entry_u16;
-use interval_store_manager::{Decision, IntervalStoreManager};
-use terms::{LabelIndex, Refusal, NONE};
+use interval_store_manager::Decision;
+use interval_store_manager::IntervalStoreManager;
+use terms::LabelIndex;
+use terms::NONE;
+use terms::Refusal;
 
 // Document 01: 'codes 0 to 23', 'inc of a point or label count at 65,535'.
 const LARGEST_CODE: usize = 23;
+
 const LARGEST_COUNT: u16 = 65535;
 
-pub fn label_in_use(store_labels: bool, capacity: usize, label_count: &[u16], label: LabelIndex) -> bool
+pub fn label_in_use(
+    store_labels: bool,
+    capacity: usize,
+    label_count: &[u16],
+    label: LabelIndex,
+) -> bool
     ensures { λ r. ⌜ r ≡ inUse «store_labels» capacity (now («label_count» .entry)) (label .0) ⌝ }
 {
     let i = label.0;
@@ -47,7 +55,12 @@ pub fn room_decision(store_labels: bool, label_manager: IntervalStoreManager) ->
     Decision::Go
 }
 
-pub fn inc_decision(store_labels: bool, capacity: usize, label_count: &[u16], label: LabelIndex) -> Decision
+pub fn inc_decision(
+    store_labels: bool,
+    capacity: usize,
+    label_count: &[u16],
+    label: LabelIndex,
+) -> Decision
     ensures { λ r. ⌜ decisionMeans r ≡ incDecided «store_labels» capacity (now («label_count» .entry)) (label .0) ⌝ }
 {
     if store_labels {
@@ -62,7 +75,12 @@ pub fn inc_decision(store_labels: bool, capacity: usize, label_count: &[u16], la
     Decision::Go
 }
 
-pub fn dec_decision(store_labels: bool, capacity: usize, label_count: &[u16], label: LabelIndex) -> Decision
+pub fn dec_decision(
+    store_labels: bool,
+    capacity: usize,
+    label_count: &[u16],
+    label: LabelIndex,
+) -> Decision
     ensures { λ r. ⌜ decisionMeans r ≡ decDecided «store_labels» capacity (now («label_count» .entry)) (label .0) ⌝ }
 {
     if store_labels {

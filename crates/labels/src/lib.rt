@@ -8,14 +8,22 @@ mod entry;
 mod read;
 mod take;
 
+pub use classes::class_of;
+pub use classes::reason_classes;
+pub use count::dec_label;
+pub use count::inc_label;
+pub use decide::code_decision;
+pub use decide::dec_decision;
+pub use decide::inc_decision;
+pub use decide::label_in_use;
+pub use decide::room_decision;
 use interval_store_manager::IntervalStoreManager;
-use terms::{LabelIndex, Refusal};
-
-pub use classes::{class_of, reason_classes};
-pub use count::{dec_label, inc_label};
-pub use decide::{code_decision, dec_decision, inc_decision, label_in_use, room_decision};
-pub use read::{attribute, attribute_vec, label};
+pub use read::attribute;
+pub use read::attribute_vec;
+pub use read::label;
 pub use take::take_label;
+use terms::LabelIndex;
+use terms::Refusal;
 
 // The managers of the label indices and of the attribute slots.
 pub struct LabelManagers {

@@ -3,13 +3,21 @@ ghost use mathlib.Core.Path.{_≡_};
 ghost use Prim.Native.Nat.{_<_};
 ghost use lib.ListN.{length, set, replicate};
 ghost use Rattle.labels.specs.Readings.{labelReadMeans, vectorReadMeans, zeroFloat, oneFloat, labelSpec, attributeSpec, vectorOutcome, attributeVecSpec};
-
+use crate::LabelRead;
+use crate::VectorRead;
 use crate::decide::label_in_use;
-use crate::entry::{entry_u16, entry_u8};
-use crate::{LabelRead, VectorRead};
-use terms::{LabelIndex, Refusal};
+use crate::entry::entry_u8;
+use crate::entry::entry_u16;
+use terms::LabelIndex;
+use terms::Refusal;
 
-pub fn label(store_labels: bool, capacity: usize, labels: &[u8], label_count: &[u16], index: LabelIndex) -> LabelRead
+pub fn label(
+    store_labels: bool,
+    capacity: usize,
+    labels: &[u8],
+    label_count: &[u16],
+    index: LabelIndex,
+) -> LabelRead
     ensures { λ r. ⌜ labelReadMeans r ≡ labelSpec «store_labels» capacity (now (labels .entry)) (now («label_count» .entry)) (index .0) ⌝ }
 {
     if label_in_use(store_labels, capacity, label_count, index) {
@@ -18,7 +26,14 @@ pub fn label(store_labels: bool, capacity: usize, labels: &[u8], label_count: &[
     LabelRead::Refused(Refusal::LabelNotInUse)
 }
 
-pub fn attribute(store_labels: bool, capacity: usize, label_attributes: &[u16], label_count: &[u16], attributes: &[u8], index: LabelIndex) -> LabelRead
+pub fn attribute(
+    store_labels: bool,
+    capacity: usize,
+    label_attributes: &[u16],
+    label_count: &[u16],
+    attributes: &[u8],
+    index: LabelIndex,
+) -> LabelRead
     ensures { λ r. ⌜ labelReadMeans r ≡ attributeSpec «store_labels» capacity (now («label_attributes» .entry)) (now («label_count» .entry)) (now (attributes .entry)) (index .0) ⌝ }
 {
     if label_in_use(store_labels, capacity, label_count, index) {
@@ -41,7 +56,14 @@ fn one_hot(out: &mut [f32], at: usize)
     out[at] = 1.0;
 }
 
-pub fn attribute_vec(store_labels: bool, capacity: usize, label_attributes: &[u16], label_count: &[u16], index: LabelIndex, out: &mut [f32]) -> VectorRead
+pub fn attribute_vec(
+    store_labels: bool,
+    capacity: usize,
+    label_attributes: &[u16],
+    label_count: &[u16],
+    index: LabelIndex,
+    out: &mut [f32],
+) -> VectorRead
     ensures { λ r. ⌜ vectorOutcome (vectorReadMeans r) (now (out .exit)) ≡ attributeVecSpec «store_labels» capacity (now («label_attributes» .entry)) (now («label_count» .entry)) (index .0) (now (out .entry)) ⌝ }
 {
     if label_in_use(store_labels, capacity, label_count, index) {

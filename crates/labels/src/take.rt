@@ -7,9 +7,9 @@ ghost use lib.ListN.{length};
 ghost use Rattle.labels.specs.Counted.{counted};
 ghost use Rattle.labels.specs.Labels.{classSlot, slotTaken, labelTaken, labelsWell};
 ghost use Rattle.labels.specs.Forms.{SlotReady, slotOutcome, held, entered, left, labelOutcome};
-
+use crate::LabelManagers;
+use crate::TakenLabel;
 use crate::classes::class_of;
-use crate::{LabelManagers, TakenLabel};
 use interval_store_manager::IntervalStoreManager;
 use terms::LabelIndex;
 
@@ -37,14 +37,25 @@ fn class_slot(capacity: usize, attributes: &[u8], attribute_count: &[u32], class
 }
 
 // A slot for the class, with one count more.
-fn take_slot(capacity: usize, manager: IntervalStoreManager, attributes: &mut [u8], attribute_count: &mut [u32], attribute_starts: &mut [u16], attribute_ends: &[u16], class: u8) -> TakenSlot
+fn take_slot(
+    capacity: usize,
+    manager: IntervalStoreManager,
+    attributes: &mut [u8],
+    attribute_count: &mut [u32],
+    attribute_starts: &mut [u16],
+    attribute_ends: &[u16],
+    class: u8,
+) -> TakenSlot
     requires { ⌜ SlotReady capacity (now attributes) (counted manager (now «attribute_count») (now «attribute_starts») (now «attribute_ends»)) ⌝ }
     ensures { λ r. ⌜ slotOutcome (r .slot) (now (attributes .exit)) (counted (r .manager) (now («attribute_count» .exit)) (now («attribute_starts» .exit)) (now («attribute_ends» .entry))) ≡ slotTaken capacity (now (attributes .entry)) (counted manager (now («attribute_count» .entry)) (now («attribute_starts» .entry)) (now («attribute_ends» .entry))) class ⌝ }
 {
     let live = class_slot(capacity, attributes, attribute_count, class);
     if live < capacity {
         attribute_count[live] += 1;
-        return TakenSlot { slot: live, manager };
+        return TakenSlot {
+            slot: live,
+            manager,
+        };
     }
     let taken = manager.get_unchecked(attribute_starts, attribute_ends);
     let slot = taken.given.index;
@@ -78,7 +89,15 @@ pub fn take_label(
 {
     let class = class_of(classes, code);
     let slot_manager = managers.attribute_manager;
-    let s = take_slot(capacity, slot_manager, attributes, attribute_count, attribute_starts, attribute_ends, class);
+    let s = take_slot(
+        capacity,
+        slot_manager,
+        attributes,
+        attribute_count,
+        attribute_starts,
+        attribute_ends,
+        class,
+    );
     let slot = s.slot;
     let attribute_manager = s.manager;
     let index_manager = managers.label_manager;

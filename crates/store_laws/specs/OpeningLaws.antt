@@ -38,7 +38,7 @@ pub record Openable {E : Type 0} (h : Shape) (m : Memory E) : Type 0 where
 
 -- the first n entries made x
 module _ {X : Type 0} (n : ℕ) (x : X) (xs : List X) where
-  filled-length : n ≤ length xs → length (filledFirst n x xs) ≡ length xs
+  pub filled-length : n ≤ length xs → length (filledFirst n x xs) ≡ length xs
   filled-length h = simp (length-append, length-replicate, length-drop) (omega arith)
 
   pub filled-at : (i : ℕ) (d : X) → i < n → getD (filledFirst n x xs) i d ≡ x

@@ -43,7 +43,7 @@ loop-again : tie.Need-loop-again Inv-loop μ-loop
 loop-again c = (
   omega arith,
   below-more (λ k. holdsClass (c .before .before .before .before .args .attributes .now) (c .before .before .before .before .args .attribute-count .now) (c .before .before .before .before .args .class) k ≡ false) (c .before .before .before .loop .i) (c .before .before .before .loop .inv .1)
-  (⊎-elim (λ w. other-class (c .before .before .before .before .args .attributes .now) (c .before .before .before .before .args .attribute-count .now) (c .before .before .before .before .args .class) (c .before .before .before .loop .i) (w .2 .left)) (λ w. not-live (c .before .before .before .before .args .attributes .now) (c .before .before .before .before .args .attribute-count .now) (c .before .before .before .before .args .class) (c .before .before .before .loop .i) (w .left)) (c .if1 .came)),
+      (⊎-elim (λ w. other-class (c .before .before .before .before .args .attributes .now) (c .before .before .before .before .args .attribute-count .now) (c .before .before .before .before .args .class) (c .before .before .before .loop .i) (w .2 .left)) (λ w. not-live (c .before .before .before .before .args .attributes .now) (c .before .before .before .before .args .attribute-count .now) (c .before .before .before .before .args .class) (c .before .before .before .loop .i) (w .left)) (c .if1 .came)),
 )
 
 returns-2 : tie.Need-returns-2 Inv-loop μ-loop
