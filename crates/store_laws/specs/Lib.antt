@@ -12,3 +12,5 @@ pub mod LaidLaws
 pub mod AddingLaws
 pub mod OpeningLaws
 pub mod AdjustLaws
+pub mod RefusalLaws
+pub mod FormLaws
