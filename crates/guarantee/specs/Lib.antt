@@ -17,3 +17,5 @@ pub mod EachCallKeeps
 pub mod Fresh
 pub mod FloatSpace
 pub mod Theorem
+pub mod WorkedList
+pub mod FloatRows
