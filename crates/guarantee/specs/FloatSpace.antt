@@ -21,7 +21,6 @@ use Rattle.store_definitions.specs.Adding.{AddDecided, keep, wait, refuseAdd, t
 use Rattle.store_definitions.specs.WellFormed.{wellFormed}
 use Rattle.store_laws.specs.Sound.{Sound, sound}
 use Rattle.store_laws.specs.AddingLaws.{keeps-on}
-use Rattle.guarantee.specs.Calls.{addCall}
 use Rattle.guarantee.specs.History.{Given, History}
 use Rattle.guarantee.specs.Guarantee.{liveIndices}
 use Rattle.guarantee.specs.Relates.{Relates}
@@ -76,7 +75,7 @@ module _ {E : Type 0} (eq : E → E → Bool) (zeroElement : E) (p : PointStore 
       (λ e. let z : _≡_ {A = ℕ} 0 1 = cc in omega arith))))
 
   -- 10: the add is kept but for its row
-  ten : wellFormed p ≡ true → addCall eq zeroElement p point code .answer ≡ refused 10
+  ten : wellFormed p ≡ true → addSpec eq zeroElement p point code .answer ≡ refused 10
       → (addDecided p point code ≡ keep) × (overflows eq (p .header) (roomMade zeroElement (p .header) (rowsOf p)) (rowOf p point) ≡ true)
   unfolding addSpec keeps
   ten f = split (addDecided p point code) refl
@@ -91,7 +90,7 @@ module _ {E : Type 0} (eq : E → E → Bool) (zeroElement : E) (p : PointStore 
       split (refuseAdd n) e a = absurd (decided-not-ten f (e ∙ ap refuseAdd (let q : n ≡ 10 = cc in q)))
 
   module _ (h : Shape) (then : Given E → PointStore E) (s : History E) (f : wellFormed p ≡ true) (r : Relates eq h then s p) where
-    pub space-refusal : addCall eq zeroElement p point code .answer ≡ refused 10
+    pub space-refusal : addSpec eq zeroElement p point code .answer ≡ refused 10
         → (h .«internal_rotation» ≡ true)
         × (p .header .«store_length» < liveIndices (h .capacity) s * pointRoom (h .«internal_rotation») (h .dimensions) (h .dimensions / h .«shingle_size») + h .dimensions)
     space-refusal e =

@@ -15,8 +15,7 @@ use Rattle.store_definitions.specs.Memory.{PointStore}
 use Rattle.store_definitions.specs.Answers.{Output}
 use Rattle.store_definitions.specs.Parts.{baseOf, tableLength}
 use Rattle.store_definitions.specs.Decisions.{refuseIf, writes}
-use Rattle.store_definitions.specs.Rows.{copyOf}
-use Rattle.guarantee.specs.Calls.{copyCall}
+use Rattle.store_definitions.specs.Rows.{copyOf, copySpec}
 use Rattle.guarantee.specs.History.{Given, count, isLive, History, joinedPoints}
 use Rattle.guarantee.specs.Guarantee.{LiveSince}
 
@@ -42,7 +41,7 @@ copyAnswer dims copy out = writes (refuseIf (not (eqb (length out) dims)) 3) out
 module _ {E : Type 0} (eq : E → E → Bool) (h : Shape) (then : Given E → PointStore E) where
   -- a live index's copy: what it was right after the add that gave the index, and that add's row
   pub record CopyStands (i : ℕ) (g : Given E) (copy : List E) : Type 0 where
-    pub as-then : (out : List E) → copyCall (then g) i out ≡ copyAnswer (h .dimensions) copy out
+    pub as-then : (out : List E) → copySpec (then g) i out ≡ copyAnswer (h .dimensions) copy out
     pub row : Alike eq copy (turned (h .dimensions) (turn (h .«internal_rotation») (h .dimensions) (h .dimensions / h .«shingle_size») (g .place)) (g .row))
 
   pub record Relates (s : History E) (p : PointStore E) : Type 0 where

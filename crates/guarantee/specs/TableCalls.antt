@@ -19,10 +19,9 @@ use Rattle.labels.specs.CountedLaws.{WellCounted, next-within, next-unused, tak
 use Rattle.store_definitions.specs.declared.Shape.{Shape}
 use Rattle.store_definitions.specs.Memory.{PointStore}
 use Rattle.store_definitions.specs.Parts.{baseOf, tableLength, withPoints}
-use Rattle.store_definitions.specs.Rows.{copyOf}
+use Rattle.store_definitions.specs.Rows.{copyOf, copySpec}
 use Rattle.store_definitions.specs.Adding.{placed}
 use Rattle.store_laws.specs.Sound.{Sound}
-use Rattle.guarantee.specs.Calls.{copyCall}
 use Rattle.guarantee.specs.History.{Given, Life, alive, count, isLive, History, gave, changed}
 use Rattle.guarantee.specs.LifeLaws.{dead-count}
 use Rattle.guarantee.specs.Relates.{copyAnswer, CopyStands, Relates}
@@ -109,7 +108,7 @@ module _ {E : Type 0} (eq : E → E → Bool) (h : Shape) (then : Given E → Po
     own =
         record {
           as-then = λ out.
-              ap (λ (q : PointStore E). copyCall q i out) now
+              ap (λ (q : PointStore E). copySpec q i out) now
               ∙ copy-answer after sound i listed counted out
               ∙ ap (λ (d : ℕ). copyAnswer d (copyOf after i) out) (r .fits .dimensions)
               ∙ ap (λ (c : List E). copyAnswer (h .dimensions) c out) own-copy;
