@@ -38,7 +38,7 @@ module _ {E : Type 0} (eq : E → E → Bool) (s : Store) (r : Rows E) (row : Li
   unfolding overflows laidFree
   written = ltb-false (r .storeLength) (r .free + writtenCount dims base j) room
 
-  laying : LayingKeeps eq dims base j (r .free) (r .elements) row after
+  pub laying : LayingKeeps eq dims base j (r .free) (r .elements) row after
   unfolding joins laidFree
   laying =
       laying-keeps eq dims base (s .«shingle_size») (r .free) (r .elements) row (w .well-placed .shaped) (w .free-whole) sized j refl

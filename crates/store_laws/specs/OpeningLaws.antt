@@ -37,10 +37,10 @@ pub record Openable {E : Type 0} (h : Shape) (m : Memory E) : Type 0 where
 
 -- the first n entries made x
 module _ {X : Type 0} (n : ℕ) (x : X) (xs : List X) where
-  filled-length : n ≤ length xs → length (filledFirst n x xs) ≡ length xs
+  pub filled-length : n ≤ length xs → length (filledFirst n x xs) ≡ length xs
   filled-length h = simp (length-append, length-replicate, length-drop) (omega arith)
 
-  filled-at : (i : ℕ) (d : X) → i < n → getD (filledFirst n x xs) i d ≡ x
+  pub filled-at : (i : ℕ) (d : X) → i < n → getD (filledFirst n x xs) i d ≡ x
   filled-at i d l = List·getD-append (replicate n x) (drop n xs) d i (rw (length-replicate n x) l) ∙ getD-replicate n i x d l
 
 open-go : (a b : Bool) → cond a (cond b go (refuse 1)) (refuse 2) ≡ go → (a ≡ true) × (b ≡ true)
