@@ -29,3 +29,6 @@ module _ (dims base : ℕ) (run : Run) (end i : ℕ) (done : Progress) where
       let n : done .free + run .zeros - done .free ≡ run .zeros = omega arith in
       ap (λ (l : List ℕ). scan l (set location i ((free - dims) / base)) (record { free = free; read = end }))
       (f ∙ ap (copiedWithin (done .free + run .zeros) (run .from) (end - run .from)) (e ∙ ap (λ (m : ℕ). filled 0 (done .free) m store) n))
+
+pub scan-same : {e e′ l l′ : List ℕ} {p p′ : Progress} → e ≡ e′ → l ≡ l′ → p ≡ p′ → scan e l p ≡ scan e′ l′ p′
+scan-same e l p = λ k. scan (e k) (l k) (p k)

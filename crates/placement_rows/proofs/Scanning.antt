@@ -14,7 +14,7 @@ use Rattle.placement.specs.Compaction.{compacted, liveBelow}
 use Rattle.placement.specs.Places.{Live, WellPlaced}
 use Rattle.placement.specs.ProgressLaws.{Sound}
 use Rattle.placement.specs.Scan.{well-sound}
-use Rattle.placement.specs.Scanned.{Scanned, scanned, shown, advanced, Bounded, scanned-first, scanned-dead, scanned-bounded, scanned-last, scanned-joins, scanned-starts, met-inside, joins-within, starts-behind}
+use Rattle.placement.specs.Scanned.{ScanState, scanned, shown, advanced, Bounded, scanned-first, scanned-dead, scanned-bounded, scanned-last, scanned-joins, scanned-starts, met-inside, joins-within, starts-behind}
 use Rattle.placement.specs.Steps.{steps}
 use Rattle.placement_rows.specs.Compactable.{layout}
 use Rattle.placement_rows.specs.IndexTable.{found-none, found-live, found-at}
@@ -22,34 +22,28 @@ use Rattle.placement_rows.specs.OnePass.{scan, runOf, met, Copyable, Sca
 use Rattle.placement_rows.specs.declared.one_pass.Progress.{Progress}
 use Rattle.placement_rows.specs.declared.one_pass.Run.{Run}
 
--- once the places below q are scanned: the elements, the places and the progress
-pub record Scanning (dims base : ℕ) (rotation : Bool) (elements location table : List ℕ) (free q : ℕ) (e l : List ℕ) (p : Progress) : Type 0 where
-  pub pre : Scannable dims base location table free (length elements)
-  pub within : q ≤ free / base
-  pub same : scan e l p ≡ scanned 0 dims base rotation elements location q
-
 module _ (dims base : ℕ) (rotation : Bool) (elements location table : List ℕ) (free : ℕ) (pre : Scannable dims base location table free (length elements)) where
-  abbrev at : ℕ → Scanned ℕ
+  abbrev at : ℕ → ScanState ℕ
   at q = scanned 0 dims base rotation elements location q
 
   abbrev well : WellPlaced dims base location free (length elements)
   well = pre .compactable .well
 
   -- before the first turn, and after the last
-  scan-first : scan elements location (record { free = 0; read = 0 }) ≡ at 0
+  pub scan-first : scan elements location (record { free = 0; read = 0 }) ≡ at 0
   scan-first = sym (scanned-first 0 dims base rotation elements location)
 
-  scan-last : (e l : List ℕ) (p : Progress) → scan e l p ≡ at (free / base) → layout e l (p .free) ≡ compacted 0 dims base rotation elements location free
+  pub scan-last : (e l : List ℕ) (p : Progress) → scan e l p ≡ at (free / base) → layout e l (p .free) ≡ compacted 0 dims base rotation elements location free
   scan-last e l p h =
-      ap (λ (t : Scanned ℕ). layout (t .elements) (t .location) (t .free)) h ∙ sym (scanned-last 0 dims base rotation elements location free well)
+      ap (λ (t : ScanState ℕ). layout (t .elements) (t .location) (t .free)) h ∙ sym (scanned-last 0 dims base rotation elements location free well)
 
   module _ (q : ℕ) (e l : List ℕ) (p : Progress) (h : scan e l p ≡ at q) where
     -- no slice changes its length
-    elements-kept : q ≤ free / base → length e ≡ length elements
-    elements-kept k = ap (λ (t : Scanned ℕ). length (t .elements)) h ∙ scanned-bounded 0 dims base rotation elements location free well q k .elements-kept
+    pub elements-kept : q ≤ free / base → length e ≡ length elements
+    elements-kept k = ap (λ (t : ScanState ℕ). length (t .elements)) h ∙ scanned-bounded 0 dims base rotation elements location free well q k .elements-kept
 
-    indices-kept : q ≤ free / base → length l ≡ length location
-    indices-kept k = ap (λ (t : Scanned ℕ). length (t .location)) h ∙ scanned-bounded 0 dims base rotation elements location free well q k .indices-kept
+    pub indices-kept : q ≤ free / base → length l ≡ length location
+    indices-kept k = ap (λ (t : ScanState ℕ). length (t .location)) h ∙ scanned-bounded 0 dims base rotation elements location free well q k .indices-kept
 
     module _ (inside : q < free / base) where
       listed : q < length table
@@ -59,16 +53,16 @@ module _ (dims base : ℕ) (rotation : Bool) (elements location table : List ℕ
       i = getD table q 0
 
       -- no point stands at q
-      passes : i ≡ 65535 → scan e l p ≡ at (q + 1)
-      passes d = h ∙ rw (add-one q) (sym (scanned-dead 0 dims base rotation elements location q (found-none (pre .indexed) q listed d)))
+      pub passes : i ≡ 65535 → scan e l p ≡ at (q + 1)
+      passes d = h ∙ rw (add-one q) (sym (scanned-dead 0 dims base rotation elements location q (found-none location table (pre .indexed) q listed d)))
 
       -- the point of index i stands at q
       module _ (d : ¬ (i ≡ 65535)) where
         live : Live location i
-        live = found-live (pre .indexed) q listed (pre .small) d
+        live = found-live location table (pre .indexed) q listed (pre .small) d
 
         there : getD location i 65535 ≡ q
-        there = found-at (pre .indexed) q listed d
+        there = found-at location table (pre .indexed) q listed d
 
         abbrev joined : Run
         joined = record { zeros = 0; from = at q .read }
@@ -114,9 +108,9 @@ module _ (dims base : ℕ) (rotation : Bool) (elements location table : List ℕ
             go false k =
                 of started (starts-behind 0 dims base rotation elements location free well q i live there (leb-false (q * base) (at q .read) k)) (omega arith) (omega arith)
 
-        can-take : (0 < dims) × Copyable dims base (runOf dims base rotation q (p .free) (p .read)) (q * base + dims) i (p .free) (length e) (length l)
+        pub can-take : (0 < dims) × Copyable dims base (runOf dims base rotation q (p .free) (p .read)) (q * base + dims) i (p .free) (length e) (length l)
         can-take =
-            (well .shaped .some, subst (λ (t : Scanned ℕ). Copyable dims base (runOf dims base rotation q (t .free) (t .read)) (q * base + dims) i (t .free) (length (t .elements)) (length (t .location))) (sym h) copyable)
+            (well .shaped .some, subst (λ (t : ScanState ℕ). Copyable dims base (runOf dims base rotation q (t .free) (t .read)) (q * base + dims) i (t .free) (length (t .elements)) (length (t .location))) (sym h) copyable)
 
         met-next : met dims base rotation q i (at q) ≡ at (suc q)
         unfolding met runOf
@@ -126,49 +120,5 @@ module _ (dims base : ℕ) (rotation : Bool) (elements location table : List ℕ
             go true k = sym (scanned-joins 0 dims base rotation elements location free well q i live there (pre .compactable .distinct) (leb-true (q * base) (at q .read) k))
             go false k = sym (scanned-starts 0 dims base rotation elements location free well q i live there (pre .compactable .distinct) (leb-false (q * base) (at q .read) k))
 
-        takes : (e′ l′ : List ℕ) (p′ : Progress) → scan e′ l′ p′ ≡ met dims base rotation q i (scan e l p) → scan e′ l′ p′ ≡ at (q + 1)
+        pub takes : (e′ l′ : List ℕ) (p′ : Progress) → scan e′ l′ p′ ≡ met dims base rotation q i (scan e l p) → scan e′ l′ p′ ≡ at (q + 1)
         takes e′ l′ p′ k = k ∙ ap (met dims base rotation q i) h ∙ met-next ∙ rw (add-one q)
-
--- before the first turn
-pub begun : {dims base : ℕ} {rotation : Bool} {elements location table : List ℕ} {free : ℕ} → Scannable dims base location table free (length elements)
-    → Scanning dims base rotation elements location table free 0 elements location (record { free = 0; read = 0 })
-begun {dims} {base} {rotation} {elements} {location} {table} {free} pre =
-    record { pre = pre; within = omega arith; same = scan-first dims base rotation elements location table free pre }
-
-module _ {dims base : ℕ} {rotation : Bool} {elements location table : List ℕ} {free q : ℕ} {e l : List ℕ} {p : Progress} (s : Scanning dims base rotation elements location table free q e l p) where
-  -- no slice changes its length
-  pub elements-stay : length e ≡ length elements
-  elements-stay = elements-kept dims base rotation elements location table free (s .pre) q e l p (s .same) (s .within)
-
-  pub indices-stay : length l ≡ length location
-  indices-stay = indices-kept dims base rotation elements location table free (s .pre) q e l p (s .same) (s .within)
-
-  -- after the last turn
-  pub ended : free / base ≤ q → layout e l (p .free) ≡ compacted 0 dims base rotation elements location free
-  ended h =
-      let all : q ≡ free / base = omega (arith, s .within) in
-      scan-last dims base rotation elements location table free (s .pre) e l p (s .same ∙ ap (scanned 0 dims base rotation elements location) all)
-
-  module _ (inside : q < free / base) where
-    pub take-ready : ¬ (getD table q 0 ≡ 65535)
-        → (0 < dims) × Copyable dims base (runOf dims base rotation q (p .free) (p .read)) (q * base + dims) (getD table q 0) (p .free) (length e) (length l)
-    take-ready d = can-take dims base rotation elements location table free (s .pre) q e l p (s .same) inside d
-
-    -- a turn at a place where no point stands
-    pub passed : {e′ l′ : List ℕ} {p′ : Progress} → getD table q 0 ≡ 65535 → e′ ≡ e → l′ ≡ l → p′ ≡ p → Scanning dims base rotation elements location table free (q + 1) e′ l′ p′
-    passed d f g h =
-        record {
-          pre = s .pre;
-          within = omega arith;
-          same = (λ k. scan (f k) (g k) (h k)) ∙ passes dims base rotation elements location table free (s .pre) q e l p (s .same) inside d;
-        }
-
-    -- and at that of a point
-    pub took : {e′ l′ e″ l″ : List ℕ} {p′ p″ : Progress} → ¬ (getD table q 0 ≡ 65535) → scan e″ l″ p″ ≡ met dims base rotation q (getD table q 0) (scan e l p) → e′ ≡ e″ → l′ ≡ l″ → p′ ≡ p″
-        → Scanning dims base rotation elements location table free (q + 1) e′ l′ p′
-    took {e″ = e″} {l″ = l″} {p″ = p″} d m f g h =
-        record {
-          pre = s .pre;
-          within = omega arith;
-          same = (λ k. scan (f k) (g k) (h k)) ∙ takes dims base rotation elements location table free (s .pre) q e l p (s .same) inside d e″ l″ p″ m;
-        }

@@ -22,8 +22,8 @@ pub record Indexed (location table : List ℕ) (n : ℕ) : Type 0 where
   pub some : (q : ℕ) → q < length table → ¬ (getD table q 0 ≡ 65535) → (getD table q 0 < n) × (getD location (getD table q 0) 65535 ≡ q)
 
 -- a table of n entries with no index in it
-pub indexed-none : {location table : List ℕ} (n : ℕ) → table ≡ replicate n 65535 → Indexed location table 0
-indexed-none n e =
+pub indexed-none : (location table : List ℕ) (n : ℕ) → table ≡ replicate n 65535 → Indexed location table 0
+indexed-none location table n e =
     record {
       none = λ q h f i k. absurd (omega arith);
       some =
@@ -31,7 +31,7 @@ indexed-none n e =
           absurd (d (ap (λ (t : List ℕ). getD t q 0) e ∙ getD-replicate n q 65535 0 (omega (arith, ap length e ∙ length-replicate n 65535))));
     }
 
-module _ {location table : List ℕ} {n : ℕ} (small : length table ≤ 65535) (done : Indexed location table n) where
+module _ (location table : List ℕ) (n : ℕ) (small : length table ≤ 65535) (done : Indexed location table n) where
   -- what holds of the indices before n, and of n, holds of those before n + 1
   one-more : (q : ℕ) → ((i : ℕ) → i < n → ¬ (getD location i 65535 ≡ q)) → ¬ (getD location n 65535 ≡ q) → (i : ℕ) → i < n + 1 → ¬ (getD location i 65535 ≡ q)
   one-more q before this i h = go (ℕ-discrete i n)
@@ -83,18 +83,17 @@ module _ {location table : List ℕ} {n : ℕ} (small : length table ≤ 65535) 
     read : getD location n 65535 ≡ getD location n 0
     read = any-default location n 65535 0 listed
 
-    pub place-inside : {bound : ℕ} → ((i : ℕ) → Live location i → getD location i 65535 < bound) → ¬ (getD location n 0 ≡ 65535) → getD location n 0 < bound
-    place-inside inside d = rw read at (inside n (record { listed = listed; placed = λ e. d (sym read ∙ e) }))
+    pub place-inside : (bound : ℕ) → ((i : ℕ) → Live location i → getD location i 65535 < bound) → ¬ (getD location n 0 ≡ 65535) → getD location n 0 < bound
+    place-inside bound inside d = rw read at (inside n (record { listed = listed; placed = λ e. d (sym read ∙ e) }))
 
-    pub passed : {after : List ℕ} → getD location n 0 ≡ 65535 → after ≡ table → Indexed location after (n + 1)
-    passed e f = rw f (indexed-empty (read ∙ e))
+    pub passed : (after : List ℕ) → getD location n 0 ≡ 65535 → after ≡ table → Indexed location after (n + 1)
+    passed after e f = rw f (indexed-empty (read ∙ e))
 
-    pub entered : {bound : ℕ} {after : List ℕ} → n < 65535 → ((i : ℕ) → Live location i → getD location i 65535 < bound) → length table ≡ bound → ¬ (getD location n 0 ≡ 65535)
-        → after ≡ set table (getD location n 0) n → Indexed location after (n + 1)
-    entered few inside same d f = rw (f, ← read) (indexed-live few (rw (read, same) (place-inside inside d)))
+    pub entered : (after : List ℕ) → n < 65535 → getD location n 0 < length table → after ≡ set table (getD location n 0) n → Indexed location after (n + 1)
+    entered after few inside f = rw (f, ← read) (indexed-live few (rw read inside))
 
 -- the table once every point is entered
-module _ {location table : List ℕ} (done : Indexed location table (length location)) (q : ℕ) (inside : q < length table) where
+module _ (location table : List ℕ) (done : Indexed location table (length location)) (q : ℕ) (inside : q < length table) where
   pub found-none : getD table q 0 ≡ 65535 → holds location q ≡ false
   found-none e = holds-none location q 65535 (done .none q inside e)
 

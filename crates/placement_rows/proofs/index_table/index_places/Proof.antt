@@ -16,7 +16,7 @@ abbrev μ-loop : tie.MeasureT-loop
 μ-loop location index-at₀ i₀ index-at i = length location - i
 
 loop-holds : tie.Need-loop-holds Inv-loop μ-loop
-loop-holds c = (search needs, search needs, indexed-none (length (c .args .index-at .now)) (c .pre .1 .0))
+loop-holds c = (search needs, search needs, indexed-none (c .args .location .now) (c .args .index-at .now) (length (c .args .index-at .now)) (c .pre .1 .0))
 
 mul-place : tie.Need-mul-place Inv-loop μ-loop
 mul-place c = search needs
@@ -35,8 +35,11 @@ mul-index-at c = omega (arith, c .before .shared-slice-known .given (c .before .
 
 slice-write-index-at : tie.Need-slice-write-index-at Inv-loop μ-loop
 slice-write-index-at c =
-    let inv = c .before .before .before .loop .inv in
-    rw (inv .1) (place-inside (omega (arith, c .before .before .before .before .pre .0)) (inv .2) (omega arith) (c .before .before .before .before .pre .1 .1) (c .if1 .taken))
+    let at = c .before .before .before in
+    let start = at .before in
+    let a = start .args in
+    let inv = at .loop .inv in
+    place-inside (a .location .now) (at .loop .index-at) (at .loop .i) (omega (arith, start .pre .0)) (inv .2) (omega arith) (length (at .loop .index-at)) (rw (inv .1) (start .pre .1 .1)) (c .if1 .taken)
 
 add-i : tie.Need-add-i Inv-loop μ-loop
 add-i c = search needs
@@ -46,12 +49,14 @@ loop-less c = search needs
 
 loop-again : tie.Need-loop-again Inv-loop μ-loop
 loop-again c =
-    let inv = c .before .before .before .loop .inv in
-    let pre = c .before .before .before .before .pre in
-    let small : length (c .before .before .before .loop .index-at) ≤ 65535 = omega (arith, pre .0) in
+    let at = c .before .before .before in
+    let start = at .before in
+    let a = start .args in
+    let inv = at .loop .inv in
+    let next = c .if1 .index-at in
     ⊎-elim
-    (λ w. (search needs, ap length (w .1) ∙ simp length-set (inv .1), entered small (inv .2) (omega arith) (omega (arith, pre .0)) (pre .1 .1) (inv .1) (w .0 .taken) (w .1)))
-    (λ w. (search needs, ap length (w .1) ∙ inv .1, passed small (inv .2) (omega arith) (w .0 .left) (w .1)))
+    (λ w. (search needs, ap length (w .1) ∙ simp length-set (inv .1), entered (a .location .now) (at .loop .index-at) (at .loop .i) (omega (arith, start .pre .0)) (inv .2) (omega arith) next (omega (arith, start .pre .0)) (place-inside (a .location .now) (at .loop .index-at) (at .loop .i) (omega (arith, start .pre .0)) (inv .2) (omega arith) (length (at .loop .index-at)) (rw (inv .1) (start .pre .1 .1)) (w .0 .taken)) (w .1)))
+    (λ w. (search needs, ap length (w .1) ∙ inv .1, passed (a .location .now) (at .loop .index-at) (at .loop .i) (omega (arith, start .pre .0)) (inv .2) (omega arith) next (w .0 .left) (w .1)))
     (c .if1 .came)
 
 same-length : tie.Need-same-length Inv-loop μ-loop
@@ -59,8 +64,9 @@ same-length c = c .before .loop .inv .1
 
 returns : tie.Need-returns Inv-loop μ-loop
 returns c =
-    let done : c .before .loop .i ≡ length (c .before .before .args .location .now) = omega arith in
-    rw done at (c .before .loop .inv .2)
+    let at = c .before in
+    let done : at .loop .i ≡ length (at .before .args .location .now) = omega arith in
+    rw done at (at .loop .inv .2)
 
 pub index-places-spec : {M : Type 1} → statement M
 index-places-spec =

@@ -1,0 +1,83 @@
+// What an opening writes into the lent tables: the entries that a fresh store has in use, and nothing past them.
+ghost use mathlib.Core.Bool.{true};
+ghost use mathlib.Core.Path.{_≡_};
+ghost use Prim.Native.Nat.{_-_, _≤_};
+ghost use lib.ListN.{length, set};
+ghost use Rattle.labels.specs.Forms.{held, entered, left};
+ghost use Rattle.labels.specs.Opening.{cleared};
+ghost use Rattle.store_rows.specs.Openings.{StackReady, PointsReady, LabelsReady, points, pointsOpened, labelManagers, labelsOpenedIf};
+use interval_store_manager::IntervalStoreManager;
+use placement_rows::fill;
+use placement_rows::fill_table;
+use store_definitions::Shape;
+use terms::FloatBits;
+
+// The place of an index that has no point.
+const EMPTY: u16 = 65535;
+
+fn clear_bytes(bytes: &mut [u8], n: usize)
+    requires { ⌜ n ≤ length (now bytes) ⌝ }
+    ensures { λ _. ⌜ now (bytes .exit) ≡ cleared n (now (bytes .entry)) ⌝ }
+{
+    let mut i = 0;
+    while i < n {
+        bytes[i] = 0;
+        i += 1;
+    }
+}
+
+// A manager's stack with all indices free. Under what is required the manager's own opening refuses nothing.
+fn open_stack(capacity: usize, starts: &mut [u16], ends: &mut [u16])
+    requires { ⌜ StackReady capacity (length (now starts)) (length (now ends)) ⌝ }
+    ensures { λ _. ⌜ (now (starts .exit) ≡ set (now (starts .entry)) 0 0) × (now (ends .exit) ≡ set (now (ends .entry)) 0 (capacity - 1)) ⌝ }
+{
+    IntervalStoreManager::new(capacity, starts, ends);
+}
+
+pub fn open_points(
+    shape: Shape,
+    store: &mut [FloatBits],
+    last_known_shingle: &mut [FloatBits],
+    reference_count: &mut [u16],
+    location: &mut [u16],
+    index_starts: &mut [u16],
+    index_ends: &mut [u16],
+)
+    requires { ⌜ PointsReady shape (points (now store) (now «last_known_shingle») (now «reference_count») (now location) (now «index_starts») (now «index_ends»)) ⌝ }
+    ensures { λ _. ⌜ points (now (store .exit)) (now («last_known_shingle» .exit)) (now («reference_count» .exit)) (now (location .exit)) (now («index_starts» .exit)) (now («index_ends» .exit)) ≡ pointsOpened shape (points (now (store .entry)) (now («last_known_shingle» .entry)) (now («reference_count» .entry)) (now (location .entry)) (now («index_starts» .entry)) (now («index_ends» .entry))) ⌝ }
+{
+    let start = shape.initial_capacity;
+    fill(store, 0, start * shape.dimensions, 0);
+    fill(last_known_shingle, 0, shape.dimensions, 0);
+    fill_table(reference_count, 0, start, 0);
+    fill_table(location, 0, start, EMPTY);
+    open_stack(start, index_starts, index_ends);
+}
+
+// With labels off nothing is written.
+pub fn open_labels(
+    store_labels: bool,
+    capacity: usize,
+    labels: &mut [u8],
+    label_attributes: &mut [u16],
+    label_count: &mut [u16],
+    label_starts: &mut [u16],
+    label_ends: &mut [u16],
+    attributes: &mut [u8],
+    attribute_count: &mut [u32],
+    attribute_starts: &mut [u16],
+    attribute_ends: &mut [u16],
+)
+    requires { ⌜ («store_labels» ≡ true → LabelsReady capacity (held (labelManagers capacity) labels «label_attributes» «label_count» «label_starts» «label_ends» attributes «attribute_count» «attribute_starts» «attribute_ends»)) ⌝ }
+    ensures { λ _. ⌜ left (labelManagers capacity) labels «label_attributes» «label_count» «label_starts» «label_ends» attributes «attribute_count» «attribute_starts» «attribute_ends» ≡ labelsOpenedIf «store_labels» capacity (entered (labelManagers capacity) labels «label_attributes» «label_count» «label_starts» «label_ends» attributes «attribute_count» «attribute_starts» «attribute_ends») ⌝ }
+{
+    if store_labels {
+        clear_bytes(labels, capacity);
+        fill_table(label_attributes, 0, capacity, 0);
+        fill_table(label_count, 0, capacity, 0);
+        open_stack(capacity, label_starts, label_ends);
+        clear_bytes(attributes, capacity);
+        fill(attribute_count, 0, capacity, 0);
+        open_stack(capacity, attribute_starts, attribute_ends);
+    }
+}
