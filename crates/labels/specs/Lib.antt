@@ -12,4 +12,6 @@ pub mod Decisions
 pub mod Readings
 pub mod ReadingLaws
 pub mod Forms
-pub mod Checks
+pub mod AnswerLaws
+pub mod DecisionLaws
+pub mod Examples

@@ -3,6 +3,9 @@ ghost use mathlib.Core.Path.{_≡_};
 ghost use Prim.Native.Nat.{_≤_};
 ghost use Rattle.labels.specs.Classes.{classOf, reasonClasses};
 
+// Document 01: 'codes 0 to 23'.
+pub const LARGEST_CODE: usize = 23;
+
 const REASON_CLASSES: [u8; 24] = [
     0,
     0,

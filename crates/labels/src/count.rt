@@ -67,9 +67,9 @@ fn lower_slot(
     requires { ⌜ InUse capacity (counted manager (now «attribute_count») (now «attribute_starts») (now «attribute_ends»)) slot ⌝ }
     ensures { λ r. ⌜ counted r (now («attribute_count» .exit)) (now («attribute_starts» .exit)) (now («attribute_ends» .exit)) ≡ lowered (counted manager (now («attribute_count» .entry)) (now («attribute_starts» .entry)) (now («attribute_ends» .entry))) slot ⌝ }
 {
-    let count = attribute_count[slot];
-    attribute_count[slot] = count - 1;
-    if count == 1 {
+    let labelled = attribute_count[slot];
+    attribute_count[slot] = labelled - 1;
+    if labelled == 1 {
         return manager.release_unchecked(attribute_starts, attribute_ends, slot);
     }
     manager

@@ -2,6 +2,7 @@
 ghost use mathlib.Core.Path.{_≡_};
 ghost use Rattle.interval_store_manager.specs.Calls.{decisionMeans};
 ghost use Rattle.labels.specs.Decisions.{inUse, codeDecided, roomDecided, incDecided, decDecided};
+use crate::classes::LARGEST_CODE;
 use crate::entry::entry_u16;
 use interval_store_manager::Decision;
 use interval_store_manager::IntervalStoreManager;
@@ -9,9 +10,7 @@ use terms::LabelIndex;
 use terms::NONE;
 use terms::Refusal;
 
-// Document 01: 'codes 0 to 23', 'inc of a point or label count at 65,535'.
-const LARGEST_CODE: usize = 23;
-
+// Document 01: 'inc of a point or label count at 65,535'.
 const LARGEST_COUNT: u16 = 65535;
 
 pub fn label_in_use(

@@ -1,6 +1,6 @@
 // The label half of document 01's store: reason classes, label indices and attribute slots, over lent slices, two interval
-// managers and the capacity. The store's calls sequence it with the points. Decisions, readings and the check take any
-// slices; taking, inc and dec are for callers that have checked.
+// managers and the capacity. The store's calls sequence it with the points. Decisions and readings take any slices; taking,
+// inc and dec are for callers that have checked.
 mod classes;
 mod count;
 mod decide;
@@ -8,6 +8,7 @@ mod entry;
 mod read;
 mod take;
 
+pub use classes::LARGEST_CODE;
 pub use classes::class_of;
 pub use classes::reason_classes;
 pub use count::dec_label;
@@ -39,7 +40,7 @@ pub struct TakenLabel {
 
 // What a reading of a label's code or class finds.
 pub enum LabelRead {
-    Is(u8),
+    Is(usize),
     Refused(Refusal),
 }
 

@@ -12,4 +12,5 @@ pub mod Sums
 pub mod Preview
 pub mod IndexLists
 pub mod LabelReadings
+pub mod Lent
 pub mod WorkedWindows

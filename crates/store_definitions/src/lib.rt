@@ -87,3 +87,19 @@ pub struct Item {
     pub index: PointIndex,
     pub weight: usize,
 }
+
+// The record after a call, with its answer. A refused opening gives a record of zeros.
+pub struct DoneResult {
+    pub store: Store,
+    pub answer: Done,
+}
+
+pub struct AddResult {
+    pub store: Store,
+    pub answer: Added,
+}
+
+pub struct AdjustResult {
+    pub store: Store,
+    pub answer: Adjusted,
+}

@@ -9,8 +9,10 @@ use lib.Dec.{eqb}
 use Rattle.interval_store_manager.specs.Calls.{Decided, go, refuse}
 use Rattle.labels.specs.Decisions.{none}
 use Rattle.store_definitions.specs.Memory.{PointStore}
-use Rattle.store_definitions.specs.Answers.{Answer, done, refusedAfter, Outcome, outcome}
-use Rattle.store_definitions.specs.Counting.{Pairing, pairDecided, pairDone, pairCarriedOut, adjustFrom}
+use Rattle.store_definitions.specs.Answers.{done, refusedAfter, Outcome}
+use Rattle.store_definitions.specs.Counting.{Pairing, pairDecided, pairDone, pairCarriedOut, adjustFrom, adjustSpec}
+use Rattle.store_definitions.specs.Decisions.{formDecided}
+use Rattle.store_definitions.specs.WellFormed.{wellFormed}
 
 module _ {E : Type 0} where
   -- a pair, where one that is skipped is accepted and changes nothing
@@ -81,7 +83,7 @@ module _ {E : Type 0} where
         why = e ∙ ap refuse same;
       }
 
-  pub adjust-stopped : (before : ℕ) (qs : List Pairing) (p : PointStore E) (n k : ℕ) → adjustFrom before qs p .answer ≡ refusedAfter n k → Stopped before qs p (adjustFrom before qs p .after) n k
+  adjust-stopped : (before : ℕ) (qs : List Pairing) (p : PointStore E) (n k : ℕ) → adjustFrom before qs p .answer ≡ refusedAfter n k → Stopped before qs p (adjustFrom before qs p .after) n k
   unfolding adjustFrom
   adjust-stopped before [] p n k e = absurd (let z : _≡_ {A = ℕ} 0 1 = cc in omega arith)
   adjust-stopped before (q ∷ qs) p n k e =
@@ -97,10 +99,24 @@ module _ {E : Type 0} where
   done-or before q qs p go e f a = ((e, f a .0), f a .1)
   done-or before q qs p (refuse m) e f a = absurd (let z : _≡_ {A = ℕ} 0 1 = cc in omega arith)
 
-  pub adjust-done : (before : ℕ) (qs : List Pairing) (p : PointStore E) → adjustFrom before qs p .answer ≡ done → Accepted qs p × (adjustFrom before qs p .after ≡ pairsDone qs p)
+  adjust-done : (before : ℕ) (qs : List Pairing) (p : PointStore E) → adjustFrom before qs p .answer ≡ done → Accepted qs p × (adjustFrom before qs p .after ≡ pairsDone qs p)
   unfolding adjustFrom
   adjust-done before [] p e = (tt, refl)
   adjust-done before (q ∷ qs) p e =
       subst⁻¹ (λ (o : Outcome E). o .answer ≡ done → Accepted (q ∷ qs) p × (o .after ≡ pairsDone (q ∷ qs) p)) (adjust-step before q qs p)
       (done-or before q qs p (stepDecided p q) refl (adjust-done (suc before) qs (stepDone p q)))
       e
+
+  -- of a well-formed store: an adjust that is refused, and one that is done
+  module _ (p : PointStore E) (qs : List Pairing) (w : wellFormed p ≡ true) where
+    pub adjust-on : adjustSpec p qs ≡ adjustFrom 0 qs p
+    unfolding adjustSpec formDecided
+    adjust-on = rw w
+
+    pub adjust-refused : (n k : ℕ) → adjustSpec p qs .answer ≡ refusedAfter n k → Stopped 0 qs p (adjustSpec p qs .after) n k
+    adjust-refused n k =
+        subst⁻¹ (λ (o : Outcome E). o .answer ≡ refusedAfter n k → Stopped 0 qs p (o .after) n k) adjust-on (adjust-stopped 0 qs p n k)
+
+    pub adjust-accepted : adjustSpec p qs .answer ≡ done → Accepted qs p × (adjustSpec p qs .after ≡ pairsDone qs p)
+    adjust-accepted =
+        subst⁻¹ (λ (o : Outcome E). o .answer ≡ done → Accepted qs p × (o .after ≡ pairsDone qs p)) adjust-on (adjust-done 0 qs p)

@@ -1,7 +1,7 @@
 -- What an accepted call may rely on.
 use Prim.Native.Nat.{ℕ, _<_}
 use native.Mathlib.Omega.{arith}
-use mathlib.Core.Bool.{Bool, true, false, cond, _&&_}
+use mathlib.Core.Bool.{Bool, true, false, cond}
 use mathlib.Core.List.{List}
 use mathlib.Core.Path.{_≡_, refl}
 use lib.ListN.{getD}
@@ -9,7 +9,7 @@ use lib.Dec.{ltb, eqb}
 use borrow.Author.Tests.{ltb-true, eqb-false}
 use Rattle.terms.specs.Below.{both}
 use Rattle.interval_store_manager.specs.Calls.{Decided, go, refuse}
-use Rattle.labels.specs.Decisions.{none, inUse, incDecided, decDecided}
+use Rattle.labels.specs.Decisions.{inUse, incDecided, decDecided}
 use Rattle.store_definitions.specs.Memory.{PointStore}
 use Rattle.store_definitions.specs.Parts.{tableLength}
 use Rattle.store_definitions.specs.Answers.{Outcome}
@@ -57,10 +57,6 @@ unfolding decDecided
 dec-label-go capacity counts l e = used capacity counts l (allowed (inUse true capacity counts l) 6 e)
 
 module _ {E : Type 0} where
-  pub form-go : (p : PointStore E) → formDecided p ≡ go → wellFormed p ≡ true
-  unfolding formDecided
-  form-go p e = allowed (wellFormed p) 1 e
-
   pub touch-go : (p : PointStore E) (i : ℕ) → touchDecided p i ≡ go → (i < tableLength (p .header)) × (0 < getD (p .memory .referenceCount) i 0)
   unfolding touchDecided live
   touch-go p i e =

@@ -1,14 +1,13 @@
 -- The lengths of the lent lists as named facts.
 use Prim.Native.Nat.{ℕ, _*_, _≤_}
-use mathlib.Core.Bool.{Bool, true, false, cond, _&&_}
-use mathlib.Core.Path.{_≡_, refl}
-use native.Mathlib.Omega.{arith}
+use mathlib.Core.Bool.{Bool, true}
+use mathlib.Core.Path.{_≡_}
 use lib.ListN.{length}
-use lib.Dec.{leb}
 use borrow.Author.Tests.{le-leb, leb-true}
 use Rattle.terms.specs.Below.{both, and-make}
 use Rattle.store_definitions.specs.Memory.{Memory}
 use Rattle.store_definitions.specs.Bounds.{labelsLent, lentEnough}
+use Rattle.store_laws.specs.Cases.{asked, asked-make}
 
 -- the lists besides the rows' and the labels'
 pub record PointsLent {E : Type 0} (dims capacity : ℕ) (m : Memory E) : Type 0 where
@@ -58,7 +57,7 @@ module _ {E : Type 0} (c : ℕ) (m : Memory E) where
         slot-ends-lent = leb-true c (length (m .attributeEnds)) (p8 .1);
       }
 
-  labels-are-lent-make : LabelsLent c m → labelsLent c m ≡ true
+  pub labels-are-lent-make : LabelsLent c m → labelsLent c m ≡ true
   unfolding labelsLent
   labels-are-lent-make l =
       and-make _ _ (le-leb c (length (m .labels)) (l .codes-lent))
@@ -70,15 +69,6 @@ module _ {E : Type 0} (c : ℕ) (m : Memory E) where
       (and-make _ _ (le-leb c (length (m .attributeCount)) (l .slot-counts-lent))
       (and-make _ _ (le-leb c (length (m .attributeStarts)) (l .slot-starts-lent))
       (le-leb c (length (m .attributeEnds)) (l .slot-ends-lent)))))))))
-
-  -- '(with labels off none for labels and slots)'
-  asked : (on : Bool) → cond on (labelsLent c m) true ≡ true → on ≡ true → LabelsLent c m
-  asked true e h = labels-are-lent e
-  asked false e h = absurd (let z : _≡_ {A = ℕ} 0 1 = cc in omega arith)
-
-  asked-make : (on : Bool) → (on ≡ true → LabelsLent c m) → cond on (labelsLent c m) true ≡ true
-  asked-make true f = labels-are-lent-make (f refl)
-  asked-make false f = refl
 
   module _ (dims : ℕ) (on : Bool) where
     pub lent : lentEnough dims c on m ≡ true → Lent dims c on m
@@ -99,7 +89,7 @@ module _ {E : Type 0} (c : ℕ) (m : Memory E) where
             starts-lent = leb-true c (length (m .indexStarts)) (p5 .0);
             ends-lent = leb-true c (length (m .indexEnds)) (p6 .0);
           };
-          labels-lent = asked on (p6 .1);
+          labels-lent = λ h. labels-are-lent (asked on (labelsLent c m) (p6 .1) h);
         }
 
     pub lent-make : Lent dims c on m → lentEnough dims c on m ≡ true
@@ -111,4 +101,4 @@ module _ {E : Type 0} (c : ℕ) (m : Memory E) where
         (and-make _ _ (le-leb c (length (m .referenceCount)) (q .counts-lent))
         (and-make _ _ (le-leb c (length (m .location)) (l .places-lent))
         (and-make _ _ (le-leb c (length (m .indexStarts)) (q .starts-lent))
-        (and-make _ _ (le-leb c (length (m .indexEnds)) (q .ends-lent)) (asked-make on (l .labels-lent)))))))
+        (and-make _ _ (le-leb c (length (m .indexEnds)) (q .ends-lent)) (asked-make on (labelsLent c m) (λ h. labels-are-lent-make (l .labels-lent h))))))))

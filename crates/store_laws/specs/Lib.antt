@@ -1,3 +1,4 @@
+pub mod Cases
 pub mod BoundsLaws
 pub mod LentLaws
 pub mod PlacesLaws
@@ -7,10 +8,13 @@ pub mod RowsLaws
 pub mod Lengths
 pub mod PointsLaws
 pub mod CountingLaws
+pub mod AdjustLaws
 pub mod TableLaws
 pub mod LaidLaws
+pub mod AddDecisionLaws
+pub mod WindowLaws
 pub mod AddingLaws
 pub mod OpeningLaws
-pub mod AdjustLaws
 pub mod RefusalLaws
-pub mod FormLaws
+pub mod IllFormedLaws
+pub mod WellFormedLaws

@@ -1,15 +1,14 @@
 -- Opening: which shapes over which memory are accepted, what a refused opening gives, and that an accepted one is well-formed.
-use Prim.Native.Nat.{ℕ, _+_, _*_, _-_, _/_, _≤_, _<_}
+use Prim.Native.Nat.{ℕ, _*_, _-_, _/_, _≤_, _<_}
 use native.Mathlib.Nat.{dvd-zero, mul-le-mul-right}
 use native.Mathlib.Omega.{arith}
 use mathlib.Core.Bool.{Bool, true, false, cond, _&&_}
-use mathlib.Core.List.{List, _++_}
+use mathlib.Core.List.{List}
 use mathlib.Core.Logic.{inl}
 use mathlib.Core.Path.{_≡_, refl, sym, _∙_}
-use lib.ListN.{length, getD, take, drop, replicate, set, length-append, length-drop, length-replicate, length-set, List·getD-append, getD-replicate}
-use lib.Dec.{eqb}
+use lib.ListN.{length, getD, take, drop, replicate, length-append, length-drop, length-replicate, length-set, List·getD-append, getD-replicate}
 use borrow.Author.Tests.{eq-eqb}
-use Rattle.terms.specs.Below.{both, and-make}
+use Rattle.terms.specs.Below.{both}
 use Rattle.interval_store_manager.specs.Calls.{Decided, go, refuse, manager}
 use Rattle.placement.specs.Places.{Live}
 use Rattle.labels.specs.Counted.{counted}
@@ -20,13 +19,13 @@ use Rattle.store_definitions.specs.declared.Shape.{Shape}
 use Rattle.store_definitions.specs.Memory.{Memory, PointStore}
 use Rattle.store_definitions.specs.Bounds.{boundsHold, startAllowed, rotationAllowed, lentEnough}
 use Rattle.store_definitions.specs.Parts.{Rows, labelHalf, withLabels}
-use Rattle.store_definitions.specs.Opening.{openDecided, freshRecord, filledFirst, openedMemory, opened, OpenOutcome, opens, refuses, openCarriedOut, openSpec}
+use Rattle.store_definitions.specs.Opening.{openDecided, freshRecord, filledFirst, openedMemory, opened, opens, refuses, openCarriedOut, openSpec}
 use Rattle.store_definitions.specs.WellFormed.{classTable, wellFormed}
 use Rattle.store_laws.specs.BoundsLaws.{InBounds, in-bounds, in-bounds-make, shaped, start-allowed, start-allowed-make}
 use Rattle.store_laws.specs.LentLaws.{PointsLent, LabelsLent, Lent, lent, lent-make}
 use Rattle.store_laws.specs.PlacesLaws.{live-below, live-placed}
 use Rattle.store_laws.specs.Sound.{RowsSound, Sound, sound-make}
-use Rattle.store_laws.specs.Lengths.{by-cases}
+use Rattle.store_laws.specs.Cases.{by-cases}
 use Rattle.store_laws.specs.DecisionLaws.{no-go}
 
 -- what an accepted opening rests on

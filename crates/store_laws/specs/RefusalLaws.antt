@@ -4,19 +4,18 @@ use Prim.Native.Nat.{ℕ}
 use native.Mathlib.Omega.{arith}
 use mathlib.Core.Bool.{Bool, true, false, cond, not, _&&_}
 use mathlib.Core.List.{List}
-use mathlib.Core.Path.{_≡_, refl, sym, _∙_, ap}
+use mathlib.Core.Path.{_≡_, refl, _∙_, ap}
 use lib.ListN.{length}
 use lib.Dec.{ltb, eqb}
 use Rattle.interval_store_manager.specs.Calls.{Decided, go, refuse}
 use Rattle.labels.specs.Decisions.{codeDecided, roomDecided}
-use Rattle.store_definitions.specs.declared.Store.{Store}
 use Rattle.store_definitions.specs.Memory.{PointStore}
-use Rattle.store_definitions.specs.Answers.{Answer, kept, waiting, done, refused, Outcome, outcome}
+use Rattle.store_definitions.specs.Answers.{kept, done, refused, Outcome, outcome}
 use Rattle.store_definitions.specs.Parts.{Rows, rowsOf, withRows}
 use Rattle.store_definitions.specs.Decisions.{andThen, refuseIf, formDecided, carriedOut}
 use Rattle.store_definitions.specs.Counting.{incTest, decTest, incremented, decremented, incSpec, decSpec}
 use Rattle.store_definitions.specs.Rows.{compactedRows, roomMade, compactSpec}
-use Rattle.store_definitions.specs.Adding.{pointLength, waits, tableFull, AddDecided, keep, wait, refuseAdd, thenAdd, addDecided, sequenced, rowOf, labelGiven, overflows, laidHow, keptAfter, indexGiven, keeps, addCarriedOut, addSpec}
+use Rattle.store_definitions.specs.Adding.{pointLength, waits, tableFull, AddDecided, keep, wait, refuseAdd, thenAdd, addDecided, rowOf, labelGiven, overflows, laidHow, keptAfter, indexGiven, keeps, addCarriedOut, addSpec}
 use Rattle.store_laws.specs.DecisionLaws.{Never, never-then, never-if, form-never}
 
 module _ {E : Type 0} where

@@ -1,12 +1,11 @@
 -- A store's well-formedness as a record of named facts. Its rows stand apart: compaction and growth change them alone.
-use Prim.Native.Nat.{ℕ, _+_, _*_, _/_, _%_, _≤_, _<_, _∣_}
-use native.Mathlib.Nat.{dvd-of-mod-eq-zero, mod-eq-zero-of-dvd}
+use Prim.Native.Nat.{ℕ, _+_, _*_, _%_, _≤_, _<_, _∣_}
+use native.Mathlib.Nat.{le-trans, dvd-of-mod-eq-zero, mod-eq-zero-of-dvd}
 use native.Mathlib.Decide.{ℕ-discrete}
 use native.Mathlib.Omega.{arith}
-use mathlib.Core.Bool.{Bool, true, false, cond, _&&_, _||_, Bool·beq, or-true}
-use mathlib.Core.List.{List}
+use mathlib.Core.Bool.{Bool, true, _||_, Bool·beq, or-true}
 use mathlib.Core.Logic.{_⊎_, inl, inr}
-use mathlib.Core.Path.{_≡_, refl, sym, _∙_}
+use mathlib.Core.Path.{_≡_, sym, _∙_}
 use lib.ListN.{length, getD, take}
 use lib.Seq.{getD-take}
 use lib.Dec.{leb, eqb}
@@ -17,15 +16,16 @@ use Rattle.placement.specs.Places.{Live, WellPlaced, Distinct}
 use Rattle.labels.specs.Classes.{AtMostNine, reason-rule, rule-most}
 use Rattle.labels.specs.Counted.{Counted, countAt}
 use Rattle.labels.specs.CountedLaws.{WellCounted, well-counted, well-counted-make, beq-same, same-beq}
-use Rattle.labels.specs.Labels.{labelsWell, labelsOk}
+use Rattle.labels.specs.Labels.{labelsWell}
 use Rattle.labels.specs.Sound.{Sound as LabelsSound, sound as labels-sound, sound-make as labels-sound-make}
 use Rattle.store_definitions.specs.declared.Store.{Store}
 use Rattle.store_definitions.specs.Memory.{Memory, PointStore}
 use Rattle.store_definitions.specs.Parts.{baseOf, tableLength, Rows, rowsOf, pointTable, labelHalf}
-use Rattle.store_definitions.specs.Bounds.{boundsHold, rotationAllowed, lentEnough}
-use Rattle.store_definitions.specs.WellFormed.{classTable, freeStartWell, placesDistinct, placesEnd, pointsWell, wellFormed}
+use Rattle.store_definitions.specs.Bounds.{rotationAllowed, labelsLent}
+use Rattle.store_definitions.specs.WellFormed.{classTable, freeStartWell, pointsWell, wellFormed}
+use Rattle.store_laws.specs.Cases.{asked, asked-make}
 use Rattle.store_laws.specs.BoundsLaws.{InBounds, in-bounds, in-bounds-make, shaped}
-use Rattle.store_laws.specs.LentLaws.{PointsLent, LabelsLent, lent, lent-make}
+use Rattle.store_laws.specs.LentLaws.{PointsLent, LabelsLent, labels-are-lent-make, lent, lent-make}
 use Rattle.store_laws.specs.PlacesLaws.{live-make, distinct, distinct-make, ends, ends-make}
 
 -- rows of a shape, of which the first n places are in use
@@ -51,6 +51,10 @@ started-make : (free dims : ℕ) → (free ≡ 0) ⊎ (dims ≤ free) → (eqb f
 started-make free dims (inl q) = rw (eq-eqb free 0 q)
 started-make free dims (inr l) = rw (le-leb dims free l) (or-true (eqb free 0))
 
+-- the free start is far below the empty place, and in the lent floats
+free-small : (dims shingle capacity free stored lent : ℕ) → InBounds dims shingle capacity → free ≤ stored → stored ≤ capacity * dims → capacity * dims ≤ lent → (free + dims ≤ 65535) × (free ≤ lent)
+free-small dims shingle capacity free stored lent b h g l = (omega (arith, b .dims-most, b .floats-most), omega arith)
+
 -- a table's stack has an entry for each index
 stacks-lent : (c : ℕ) (t : Counted) → WellCounted c t → (c ≤ length (t .starts)) × (c ≤ length (t .ends))
 stacks-lent c t w =
@@ -69,15 +73,6 @@ module _ {E : Type 0} where
     pub empty-is : (i : ℕ) → i < tableLength (p .header) → eqb (countAt (pointTable p) i) 0 ≡ eqb (getD (p .memory .location) i 65535) 65535
     pub labels : p .header .«store_labels» ≡ true → LabelsSound classTable (p .header .capacity) (labelHalf p)
 
-  -- 'with labels off those two, the labels and the slots are not looked at'
-  labels-are : (b : Bool) (c : ℕ) (p : PointStore E) → labelsOk b classTable c (labelHalf p) ≡ true → b ≡ true → LabelsSound classTable c (labelHalf p)
-  labels-are true c p e h = labels-sound classTable c (labelHalf p) e
-  labels-are false c p e h = absurd (let z : _≡_ {A = ℕ} 0 1 = cc in omega arith)
-
-  labels-are-make : (b : Bool) (c : ℕ) (p : PointStore E) → (b ≡ true → LabelsSound classTable c (labelHalf p)) → labelsOk b classTable c (labelHalf p) ≡ true
-  labels-are-make true c p f = labels-sound-make classTable c (labelHalf p) (f refl)
-  labels-are-make false c p f = refl
-
   -- what is lent for the labels follows from the label half
   labels-lent-of : (c : ℕ) (p : PointStore E) → LabelsSound classTable c (labelHalf p) → LabelsLent c (p .memory)
   labels-lent-of c p l =
@@ -94,6 +89,9 @@ module _ {E : Type 0} where
         slot-starts-lent = b .0;
         slot-ends-lent = b .1;
       }
+
+  pub labels-lent-make : (c : ℕ) (p : PointStore E) → LabelsSound classTable c (labelHalf p) → labelsLent c (p .memory) ≡ true
+  labels-lent-make c p l = labels-are-lent-make c (p .memory) (labels-lent-of c p l)
 
   module _ (p : PointStore E) where
     abbrev s : Store
@@ -130,6 +128,7 @@ module _ {E : Type 0} where
         let table : n ≤ s .capacity = leb-true n (s .capacity) (p4 .0) in
         let within : s .«store_length» ≤ s .capacity * s .dimensions = leb-true (s .«store_length») (s .capacity * s .dimensions) (p5 .0) in
         let inside : s .«start_free_region» ≤ s .«store_length» = leb-true (s .«start_free_region») (s .«store_length») (f2 .1) in
+        let small = free-small (s .dimensions) (s .«shingle_size») (s .capacity) (s .«start_free_region») (s .«store_length») (length (m .store)) b inside within floats in
         record {
           bounds = b;
           rotation = p2 .0;
@@ -144,17 +143,17 @@ module _ {E : Type 0} where
             free-inside = inside;
             well-placed = record {
               shaped = shaped (s .dimensions) (s .«shingle_size») (s .capacity) b;
-              small = omega (arith, b .dims-most, b .floats-most);
-              inside = omega arith;
-              ends = ends n (m .location) (omega arith) s (q3 .1);
+              small = small .0;
+              inside = small .1;
+              ends = ends n (m .location) (le-trans table places) s (q3 .1);
             };
-            distinct-places = distinct n (m .location) (omega arith) (q3 .0);
+            distinct-places = distinct n (m .location) (le-trans table places) (q3 .0);
           };
           points = well-counted n (pointTable p) (q1 .0);
           empty-is = λ i h.
               beq-same (eqb (getD (m .referenceCount) i 0) 0) (eqb (getD (m .location) i 65535) 65535)
               (every-at n emptyAt (q2 .0) i h);
-          labels = labels-are (s .«store_labels») (s .capacity) p (p7 .1);
+          labels = λ on. labels-sound classTable (s .capacity) (labelHalf p) (asked (s .«store_labels») (labelsWell classTable (s .capacity) (labelHalf p)) (p7 .1) on);
         }
 
     pub sound-make : Sound p → wellFormed p ≡ true
@@ -179,7 +178,7 @@ module _ {E : Type 0} where
         (λ i h. same-beq (eqb (getD (m .referenceCount) i 0) 0) (eqb (getD (m .location) i 65535) 65535) (w .empty-is i h)))
         (and-make _ _ (distinct-make n (m .location) (omega (arith, r .places-lent, w .table-within)) (r .distinct-places))
         (ends-make n (m .location) (omega (arith, r .places-lent, w .table-within)) s (r .well-placed .ends)))))
-        (labels-are-make (s .«store_labels») (s .capacity) p (w .labels))))))))
+        (asked-make (s .«store_labels») (labelsWell classTable (s .capacity) (labelHalf p)) (λ on. labels-sound-make classTable (s .capacity) (labelHalf p) (w .labels on)))))))))
 
     -- an index with a count has a point, which ends at most at the free start; so its place is not the empty one
     module _ (w : Sound p) (i : ℕ) (h : i < n) (u : 0 < getD (m .referenceCount) i 0) where

@@ -2,8 +2,8 @@
 use Prim.Native.Nat.{ℕ, zero, suc, _+_, _≤_, _<_}
 use native.Mathlib.Omega.{arith}
 use native.Mathlib.Decide.{decLt}
-use mathlib.Core.Bool.{Bool, true, false, cond, _&&_}
-use mathlib.Core.Path.{_≡_, refl, ap₂}
+use mathlib.Core.Bool.{Bool, true, false, cond, _&&_, and-false}
+use mathlib.Core.Path.{_≡_, refl, sym, ap₂}
 use mathlib.Core.Logic.{_⊎_, inl, inr, ⊎-elim}
 
 -- the test holds of every number below n
@@ -117,3 +117,14 @@ sum-ones (suc n) f h = omega (arith, sum-ones n f (λ i l. h i (omega arith)), h
 pub count-le : (n : ℕ) (p : ℕ → Bool) → countBelow n p ≤ n
 unfolding countBelow
 count-le n p = sum-ones n (λ i. one (p i)) (λ i l. one-le (p i))
+
+-- two tests of every number are one
+pub every-and : (n : ℕ) (p q : ℕ → Bool) → everyBelow n (λ i. p i && q i) ≡ (everyBelow n p && everyBelow n q)
+unfolding everyBelow
+every-and zero p q = refl
+every-and (suc n) p q = rw (every-and n p q) (swap (everyBelow n p) (everyBelow n q) (p n) (q n))
+  where
+    swap : (a b c d : Bool) → (a && b && (c && d)) ≡ (a && c && (b && d))
+    swap true true c d = refl
+    swap true false c d = sym (and-false c)
+    swap false b c d = refl

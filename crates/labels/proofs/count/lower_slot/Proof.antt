@@ -5,11 +5,11 @@ use Rattle.labels.specs.CountedLaws.{used-not-free, lowered-released, lo
 use Rattle.labels.proofs.count.lower_slot.Statement.{statement}
 use Rattle.labels.proofs.count.lower_slot.Tie as tie
 
-mul-count : tie.Need-mul-count
-mul-count c = search needs
+mul-labelled : tie.Need-mul-labelled
+mul-labelled c = search needs
 
-slice-read-count : tie.Need-slice-read-count
-slice-read-count c = search needs
+slice-read-labelled : tie.Need-slice-read-labelled
+slice-read-labelled c = search needs
 
 sub-attribute-count : tie.Need-sub-attribute-count
 sub-attribute-count c = search needs
@@ -48,8 +48,8 @@ pub lower-slot-spec : {M : Type 1} → statement M
 lower-slot-spec =
     tie.close
     (tie.spec
-    mul-count
-    slice-read-count
+    mul-labelled
+    slice-read-labelled
     sub-attribute-count
     mul-attribute-count
     slice-write-attribute-count

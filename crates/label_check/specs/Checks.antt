@@ -62,14 +62,11 @@ mark-free t marks i m e =
 mark-fits : (t : Counted) (marks : List ℕ) (i : ℕ) → MarksOf t marks → free t i ≡ eqb (countAt t i) 0 → markFits marks (t .counts) i ≡ true
 mark-fits t marks i m e = eq-eqb (getD marks i 0) (one (eqb (countAt t i) 0)) (m i ∙ ap one e)
 
-module _ (classes : List ℕ) (c : ℕ) (l : Labels) (labelMarks slotMarks sums : List ℕ) (lm : MarksOf (l .labelTable) labelMarks) (sm : MarksOf (l .attributeTable) slotMarks) where
+-- a well-formed label half passes
+module _ (classes : List ℕ) (c : ℕ) (l : Labels) (labelMarks : List ℕ) (lm : MarksOf (l .labelTable) labelMarks) where
   abbrev passes : ℕ → Bool
   passes i = labelPasses classes c (l .labels) (l .labelAttributes) (l .labelTable .counts) (l .attributes) labelMarks i
 
-  abbrev fits : ℕ → Bool
-  fits s = slotFits (l .attributes) (l .attributeTable .counts) slotMarks sums s
-
-  -- a well-formed label half passes
   pub labels-pass : Sound classes c l → everyBelow c passes ≡ true
   unfolding labelPasses
   labels-pass w =
@@ -78,6 +75,14 @@ module _ (classes : List ℕ) (c : ℕ) (l : Labels) (labelMarks slotMarks sums 
       and-make _ _ (mark-fits (l .labelTable) labelMarks i lm (w .label-table .free-is i m))
       (asked-make (ltb 0 (labelCountAt l i)) (labelStands classes c (l .labels) (l .labelAttributes) (l .attributes) i)
       (λ u. label-stands-make classes c l i (w .stands i m (ltb-true 0 (labelCountAt l i) u)))))
+
+  label-parts : (i : ℕ) → passes i ≡ true → (markFits labelMarks (l .labelTable .counts) i ≡ true) × (cond (ltb 0 (labelCountAt l i)) (labelStands classes c (l .labels) (l .labelAttributes) (l .attributes) i) true ≡ true)
+  unfolding labelPasses
+  label-parts i e = both (markFits labelMarks (l .labelTable .counts) i) _ e
+
+module _ (classes : List ℕ) (c : ℕ) (l : Labels) (slotMarks sums : List ℕ) (sm : MarksOf (l .attributeTable) slotMarks) where
+  abbrev fits : ℕ → Bool
+  fits s = slotFits (l .attributes) (l .attributeTable .counts) slotMarks sums s
 
   pub slots-fit : c ≤ 1024 → Summed c (l .labelAttributes) (l .labelTable .counts) sums → Sound classes c l → everyBelow c fits ≡ true
   unfolding slotFits slotPasses
@@ -90,10 +95,6 @@ module _ (classes : List ℕ) (c : ℕ) (l : Labels) (labelMarks slotMarks sums 
       (every-at c (λ a. everyBelow a (λ b. differ (l .attributes) (l .attributeTable .counts) a b))
       (distinct-make c (l .attributes) (l .attributeTable .counts) (w .distinct)) s m))
 
-  label-parts : (i : ℕ) → passes i ≡ true → (markFits labelMarks (l .labelTable .counts) i ≡ true) × (cond (ltb 0 (labelCountAt l i)) (labelStands classes c (l .labels) (l .labelAttributes) (l .attributes) i) true ≡ true)
-  unfolding labelPasses
-  label-parts i e = both (markFits labelMarks (l .labelTable .counts) i) _ e
-
   slot-parts : (s : ℕ) → fits s ≡ true → (eqb (slotCountAt l s) (getD sums s 0) ≡ true) × ((markFits slotMarks (l .attributeTable .counts) s ≡ true) × (everyBelow s (λ t. differ (l .attributes) (l .attributeTable .counts) s t) ≡ true))
   unfolding slotFits slotPasses
   slot-parts s e =
@@ -101,40 +102,40 @@ module _ (classes : List ℕ) (c : ℕ) (l : Labels) (labelMarks slotMarks sums 
       let q = both (eqb (slotCountAt l s) (getD sums s 0)) (markFits slotMarks (l .attributeTable .counts) s) (p .0) in
       (q .0, (q .1, p .1))
 
-  -- and one that passes is well-formed
-  module _ (lw : wellFormed (l .labelTable .manager) (l .labelTable .starts) (l .labelTable .ends) ≡ true) (sw : wellFormed (l .attributeTable .manager) (l .attributeTable .starts) (l .attributeTable .ends) ≡ true) (lc : l .labelTable .manager .capacity ≡ c) (sc : l .attributeTable .manager .capacity ≡ c) (most : (i : ℕ) → labelCountAt l i ≤ 65535) (h : c ≤ 1024) where
-    pub passed : tablesLent c (l .labels) (l .labelAttributes) (l .labelTable .counts) (l .attributes) (l .attributeTable .counts) ≡ true → everyBelow c passes ≡ true → Summed c (l .labelAttributes) (l .labelTable .counts) sums → everyBelow c fits ≡ true → labelsWell classes c l ≡ true
-    unfolding tablesLent
-    passed t p e f =
-        let t1 = both (leb c (length (l .labels))) _ t in
-        let t2 = both (leb c (length (l .labelAttributes))) _ (t1 .1) in
-        let t3 = both (leb c (length (l .labelTable .counts))) _ (t2 .1) in
-        let t4 = both (leb c (length (l .attributes))) _ (t3 .1) in
-        sound-make classes c l
-        (record {
-          label-table = record {
-            managed = lw;
-            whole = lc;
-            lent = leb-true c (length (l .labelTable .counts)) (t3 .0);
-            free-is = λ i m. mark-free (l .labelTable) labelMarks i lm (label-parts i (every-at c passes p i m) .0);
-          };
-          slot-table = record {
-            managed = sw;
-            whole = sc;
-            lent = leb-true c (length (l .attributeTable .counts)) (t4 .1);
-            free-is = λ s m. mark-free (l .attributeTable) slotMarks s sm (slot-parts s (every-at c fits f s m) .1 .0);
-          };
-          codes-lent = leb-true c (length (l .labels)) (t1 .0);
-          slots-lent = leb-true c (length (l .labelAttributes)) (t2 .0);
-          classes-lent = leb-true c (length (l .attributes)) (t4 .0);
-          count-most = λ i m. most i;
-          stands = λ i m u.
-              label-stands classes c l i
-              (asked (ltb 0 (labelCountAt l i)) (labelStands classes c (l .labels) (l .labelAttributes) (l .attributes) i)
-              (label-parts i (every-at c passes p i m) .1) (lt-ltb 0 (labelCountAt l i) u));
-          distinct =
-              distinct-from c (l .attributes) (l .attributeTable .counts)
-              (every-make c (λ a. everyBelow a (λ b. differ (l .attributes) (l .attributeTable .counts) a b)) (λ s m. slot-parts s (every-at c fits f s m) .1 .1));
-          sums = λ s m.
-              eqb-true (slotCountAt l s) (getD sums s 0) (slot-parts s (every-at c fits f s m) .0) ∙ e s (omega arith);
-        })
+-- and one that passes is well-formed
+module _ (classes : List ℕ) (c : ℕ) (l : Labels) (labelMarks slotMarks sums : List ℕ) (lm : MarksOf (l .labelTable) labelMarks) (sm : MarksOf (l .attributeTable) slotMarks) (lw : wellFormed (l .labelTable .manager) (l .labelTable .starts) (l .labelTable .ends) ≡ true) (sw : wellFormed (l .attributeTable .manager) (l .attributeTable .starts) (l .attributeTable .ends) ≡ true) (lc : l .labelTable .manager .capacity ≡ c) (sc : l .attributeTable .manager .capacity ≡ c) (most : (i : ℕ) → labelCountAt l i ≤ 65535) (h : c ≤ 1024) where
+  pub passed : tablesLent c (l .labels) (l .labelAttributes) (l .labelTable .counts) (l .attributes) (l .attributeTable .counts) ≡ true → everyBelow c (passes classes c l labelMarks lm) ≡ true → Summed c (l .labelAttributes) (l .labelTable .counts) sums → everyBelow c (fits classes c l slotMarks sums sm) ≡ true → labelsWell classes c l ≡ true
+  unfolding tablesLent
+  passed t p e f =
+      let t1 = both (leb c (length (l .labels))) _ t in
+      let t2 = both (leb c (length (l .labelAttributes))) _ (t1 .1) in
+      let t3 = both (leb c (length (l .labelTable .counts))) _ (t2 .1) in
+      let t4 = both (leb c (length (l .attributes))) _ (t3 .1) in
+      sound-make classes c l
+      (record {
+        label-table = record {
+          managed = lw;
+          whole = lc;
+          lent = leb-true c (length (l .labelTable .counts)) (t3 .0);
+          free-is = λ i m. mark-free (l .labelTable) labelMarks i lm (label-parts classes c l labelMarks lm i (every-at c (passes classes c l labelMarks lm) p i m) .0);
+        };
+        slot-table = record {
+          managed = sw;
+          whole = sc;
+          lent = leb-true c (length (l .attributeTable .counts)) (t4 .1);
+          free-is = λ s m. mark-free (l .attributeTable) slotMarks s sm (slot-parts classes c l slotMarks sums sm s (every-at c (fits classes c l slotMarks sums sm) f s m) .1 .0);
+        };
+        codes-lent = leb-true c (length (l .labels)) (t1 .0);
+        slots-lent = leb-true c (length (l .labelAttributes)) (t2 .0);
+        classes-lent = leb-true c (length (l .attributes)) (t4 .0);
+        count-most = λ i m. most i;
+        stands = λ i m u.
+            label-stands classes c l i
+            (asked (ltb 0 (labelCountAt l i)) (labelStands classes c (l .labels) (l .labelAttributes) (l .attributes) i)
+            (label-parts classes c l labelMarks lm i (every-at c (passes classes c l labelMarks lm) p i m) .1) (lt-ltb 0 (labelCountAt l i) u));
+        distinct =
+            distinct-from c (l .attributes) (l .attributeTable .counts)
+            (every-make c (λ a. everyBelow a (λ b. differ (l .attributes) (l .attributeTable .counts) a b)) (λ s m. slot-parts classes c l slotMarks sums sm s (every-at c (fits classes c l slotMarks sums sm) f s m) .1 .1));
+        sums = λ s m.
+            eqb-true (slotCountAt l s) (getD sums s 0) (slot-parts classes c l slotMarks sums sm s (every-at c (fits classes c l slotMarks sums sm) f s m) .0) ∙ e s (omega arith);
+      })

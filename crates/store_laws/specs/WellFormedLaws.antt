@@ -1,8 +1,8 @@
--- 1 is given exactly by an ill-formed store: to every call, with nothing changed; and a well-formed store gives it to none.
+-- A well-formed store gives 1 to no call.
 use Prim.Native.Nat.{ℕ}
 use native.Mathlib.Omega.{arith}
 use mathlib.Core.Bool.{Bool, true, false, cond, not, _&&_, _||_}
-use mathlib.Core.List.{List, [], _∷_, map}
+use mathlib.Core.List.{List, [], _∷_}
 use mathlib.Core.Path.{_≡_, refl, sym, _∙_, ap}
 use lib.ListN.{length, getD}
 use lib.Dec.{ltb, eqb}
@@ -11,10 +11,10 @@ use Rattle.interval_store_manager.specs.Calls.{Decided, go, refuse}
 use Rattle.labels.specs.Decisions.{none, inUse, incDecided, decDecided}
 use Rattle.labels.specs.Readings as reading
 use Rattle.store_definitions.specs.Memory.{PointStore}
-use Rattle.store_definitions.specs.Answers.{Answer, done, refused, refusedAfter, Outcome, outcome, Output, output}
+use Rattle.store_definitions.specs.Answers.{refused, refusedAfter}
 use Rattle.store_definitions.specs.Parts.{baseOf, rowsOf, withRows}
 use Rattle.store_definitions.specs.Decisions.{andThen, refuseIf, reads, writes, formDecided, live, touchDecided}
-use Rattle.store_definitions.specs.Counting.{Pairing, incTest, decTest, incremented, decremented, incSpec, decSpec, pairDecided, adjustFrom, adjustSpec, countSpec, liveNumberSpec, freeStartSpec}
+use Rattle.store_definitions.specs.Counting.{Pairing, incTest, decTest, incremented, decremented, incSpec, decSpec, pairDecided, adjustSpec, countSpec, liveNumberSpec, freeStartSpec}
 use Rattle.store_definitions.specs.Rows.{compactedRows, compactSpec, copyDecided, copySpec}
 use Rattle.store_definitions.specs.Adding.{AddDecided, keep, wait, refuseAdd, addDecided, addCarriedOut, addSpec}
 use Rattle.store_definitions.specs.Sums.{Weighted, answers, isEqualSpec, itemsDecided, pointSumSpec}
@@ -24,82 +24,7 @@ use Rattle.store_definitions.specs.LabelReadings.{told, labelSpec, attributeSpe
 use Rattle.store_definitions.specs.WellFormed.{wellFormed}
 use Rattle.store_laws.specs.DecisionLaws.{Never, never-go, never-then, never-if, never-unless}
 use Rattle.store_laws.specs.RefusalLaws.{carried-refused, keeps-refused, add-never}
-use Rattle.store_laws.specs.AdjustLaws.{stepDecided, adjust-stopped}
-
--- an ill-formed store
-module _ {E : Type 0} (p : PointStore E) (w : wellFormed p ≡ false) where
-  ill : formDecided p ≡ refuse 1
-  unfolding formDecided
-  ill = rw w
-
-  pub inc-ill : (i l : ℕ) → incSpec p i l ≡ outcome (refused 1) p
-  unfolding incSpec
-  inc-ill i l = rw ill
-
-  pub dec-ill : (i l : ℕ) → decSpec p i l ≡ outcome (refused 1) p
-  unfolding decSpec
-  dec-ill i l = rw ill
-
-  -- 'An adjust refusal carries also how many pairs stand before the refused one': none
-  pub adjust-ill : (qs : List Pairing) → adjustSpec p qs ≡ outcome (refusedAfter 1 0) p
-  unfolding adjustSpec
-  adjust-ill qs = rw ill
-
-  pub compact-ill : (zeroElement : E) → compactSpec zeroElement p ≡ outcome (refused 1) p
-  unfolding compactSpec
-  compact-ill zeroElement = rw ill
-
-  pub add-ill : (eq : E → E → Bool) (zeroElement : E) (point : List E) (code : ℕ) → addSpec eq zeroElement p point code ≡ outcome (refused 1) p
-  unfolding addSpec addDecided
-  add-ill eq zeroElement point code = rw ill
-
-  pub count-ill : (i : ℕ) → countSpec p i ≡ refused 1
-  unfolding countSpec
-  count-ill i = rw ill
-
-  pub live-number-ill : liveNumberSpec p ≡ refused 1
-  unfolding liveNumberSpec
-  live-number-ill = rw ill
-
-  pub free-start-ill : freeStartSpec p ≡ refused 1
-  unfolding freeStartSpec
-  free-start-ill = rw ill
-
-  pub copy-ill : (i : ℕ) (out : List E) → copySpec p i out ≡ output (refused 1) out
-  unfolding copySpec copyDecided
-  copy-ill i out = rw ill
-
-  pub equal-ill : (eq : E → E → Bool) (i : ℕ) (point : List E) → isEqualSpec eq p i point ≡ refused 1
-  unfolding isEqualSpec copyDecided
-  equal-ill eq i point = rw ill
-
-  pub sum-ill : {S : Type 0} (add : ℕ → List S → List E → List S) (zeroSum : S) (ws : List Weighted) (out : List S) → pointSumSpec add zeroSum p ws out ≡ output (refused 1) out
-  unfolding pointSumSpec
-  sum-ill add zeroSum ws out = rw ill
-
-  pub preview-ill : (point out : List E) → shingledPointSpec p point out ≡ output (refused 1) out
-  unfolding shingledPointSpec previewDecided
-  preview-ill point out = rw ill
-
-  pub missing-ill : (lookAhead : ℕ) (values out : List ℕ) → missingIndicesSpec p lookAhead values out ≡ output (refused 1) out
-  unfolding missingIndicesSpec indexListDecided
-  missing-ill lookAhead values out = rw ill
-
-  pub next-ill : (lookAhead : ℕ) (out : List ℕ) → nextIndicesSpec p lookAhead out ≡ output (refused 1) out
-  unfolding nextIndicesSpec
-  next-ill lookAhead out = missing-ill lookAhead (upTo (baseOf (p .header)) []) out
-
-  pub label-ill : (l : ℕ) → labelSpec p l ≡ refused 1
-  unfolding labelSpec
-  label-ill l = rw w
-
-  pub attribute-ill : (l : ℕ) → attributeSpec p l ≡ refused 1
-  unfolding attributeSpec
-  attribute-ill l = rw w
-
-  pub attribute-vec-ill : (l : ℕ) (out : List Float) → attributeVecSpec p l out ≡ output (refused 1) out
-  unfolding attributeVecSpec
-  attribute-vec-ill l out = rw w
+use Rattle.store_laws.specs.AdjustLaws.{stepDecided, adjust-refused}
 
 -- no other decision gives 1
 label-inc-never : (on : Bool) (c : ℕ) (counts : List ℕ) (l : ℕ) → Never 1 (incDecided on c counts l)
@@ -182,27 +107,26 @@ module _ {E : Type 0} where
     after : (d : Decided) → Never 1 d → Never 1 (andThen (formDecided p) d)
     after d f = never-then 1 (formDecided p) d form f
 
-    pub inc-never : (i l : ℕ) → incSpec p i l .answer ≡ refused 1 → ⊥
+    pub inc-not-one : (i l : ℕ) → incSpec p i l .answer ≡ refused 1 → ⊥
     unfolding incSpec
-    inc-never i l e = after (incTest p i l) (inc-test-never p i l) (carried-refused (andThen (formDecided p) (incTest p i l)) p (incremented p i l) 1 e .0)
+    inc-not-one i l e = after (incTest p i l) (inc-test-never p i l) (carried-refused (andThen (formDecided p) (incTest p i l)) p (incremented p i l) 1 e .0)
 
-    pub dec-never : (i l : ℕ) → decSpec p i l .answer ≡ refused 1 → ⊥
+    pub dec-not-one : (i l : ℕ) → decSpec p i l .answer ≡ refused 1 → ⊥
     unfolding decSpec
-    dec-never i l e = after (decTest p i l) (dec-test-never p i l) (carried-refused (andThen (formDecided p) (decTest p i l)) p (decremented p i l) 1 e .0)
+    dec-not-one i l e = after (decTest p i l) (dec-test-never p i l) (carried-refused (andThen (formDecided p) (decTest p i l)) p (decremented p i l) 1 e .0)
 
-    pub adjust-never : (qs : List Pairing) (k : ℕ) → adjustSpec p qs .answer ≡ refusedAfter 1 k → ⊥
-    unfolding adjustSpec formDecided
-    adjust-never qs k e =
-        let s = adjust-stopped 0 qs p 1 k (rw w at e) in
-        step-never (adjustFrom 0 qs p .after) (s .pair) (s .why)
+    pub adjust-not-one : (qs : List Pairing) (k : ℕ) → adjustSpec p qs .answer ≡ refusedAfter 1 k → ⊥
+    adjust-not-one qs k e =
+        let s = adjust-refused p qs w 1 k e in
+        step-never (adjustSpec p qs .after) (s .pair) (s .why)
 
-    pub compact-never : (zeroElement : E) → compactSpec zeroElement p .answer ≡ refused 1 → ⊥
+    pub compact-not-one : (zeroElement : E) → compactSpec zeroElement p .answer ≡ refused 1 → ⊥
     unfolding compactSpec
-    compact-never zeroElement e = form (carried-refused (formDecided p) p (withRows (compactedRows zeroElement (p .header) (rowsOf p)) p) 1 e .0)
+    compact-not-one zeroElement e = form (carried-refused (formDecided p) p (withRows (compactedRows zeroElement (p .header) (rowsOf p)) p) 1 e .0)
 
-    pub add-never-one : (eq : E → E → Bool) (zeroElement : E) (point : List E) (code : ℕ) → addSpec eq zeroElement p point code .answer ≡ refused 1 → ⊥
+    pub add-not-one : (eq : E → E → Bool) (zeroElement : E) (point : List E) (code : ℕ) → addSpec eq zeroElement p point code .answer ≡ refused 1 → ⊥
     unfolding addSpec
-    add-never-one eq zeroElement point code e = split (addDecided p point code) refl e
+    add-not-one eq zeroElement point code e = split (addDecided p point code) refl e
       where
         split : (a : AddDecided) → addDecided p point code ≡ a → addCarriedOut eq zeroElement a p point code .answer ≡ refused 1 → ⊥
         split keep f q = omega (arith, keeps-refused eq zeroElement p point code 1 q .0)
@@ -211,17 +135,17 @@ module _ {E : Type 0} where
             add-never 1 p point code form (λ z. omega arith) (λ z. omega arith) (λ z. omega arith) (λ z. omega arith) (λ z. omega arith)
             (f ∙ ap refuseAdd (cc))
 
-    pub count-never : (i : ℕ) → countSpec p i ≡ refused 1 → ⊥
+    pub count-not-one : (i : ℕ) → countSpec p i ≡ refused 1 → ⊥
     unfolding countSpec
-    count-never i e = after (touchDecided p i) (touch-never p i) (reads-refused (andThen (formDecided p) (touchDecided p i)) _ 1 e)
+    count-not-one i e = after (touchDecided p i) (touch-never p i) (reads-refused (andThen (formDecided p) (touchDecided p i)) _ 1 e)
 
-    pub live-number-never : liveNumberSpec p ≡ refused 1 → ⊥
+    pub live-number-not-one : liveNumberSpec p ≡ refused 1 → ⊥
     unfolding liveNumberSpec
-    live-number-never e = form (reads-refused (formDecided p) _ 1 e)
+    live-number-not-one e = form (reads-refused (formDecided p) _ 1 e)
 
-    pub free-start-never : freeStartSpec p ≡ refused 1 → ⊥
+    pub free-start-not-one : freeStartSpec p ≡ refused 1 → ⊥
     unfolding freeStartSpec
-    free-start-never e = form (reads-refused (formDecided p) _ 1 e)
+    free-start-not-one e = form (reads-refused (formDecided p) _ 1 e)
 
     copy-decided-never : (i n : ℕ) → Never 1 (copyDecided p i n)
     unfolding copyDecided
@@ -229,51 +153,51 @@ module _ {E : Type 0} where
         let wrong : Bool = not (eqb n (p .header .dimensions)) in
         after _ (never-then 1 (touchDecided p i) (refuseIf wrong 3) (touch-never p i) (never-if 1 wrong 3 (λ z. omega arith)))
 
-    pub copy-never : (i : ℕ) (out : List E) → copySpec p i out .answer ≡ refused 1 → ⊥
+    pub copy-not-one : (i : ℕ) (out : List E) → copySpec p i out .answer ≡ refused 1 → ⊥
     unfolding copySpec
-    copy-never i out e = copy-decided-never i (length out) (writes-refused (copyDecided p i (length out)) out _ 1 e)
+    copy-not-one i out e = copy-decided-never i (length out) (writes-refused (copyDecided p i (length out)) out _ 1 e)
 
-    pub equal-never : (eq : E → E → Bool) (i : ℕ) (point : List E) → isEqualSpec eq p i point ≡ refused 1 → ⊥
+    pub equal-not-one : (eq : E → E → Bool) (i : ℕ) (point : List E) → isEqualSpec eq p i point ≡ refused 1 → ⊥
     unfolding isEqualSpec
-    equal-never eq i point e = copy-decided-never i (length point) (answers-refused (copyDecided p i (length point)) _ 1 e)
+    equal-not-one eq i point e = copy-decided-never i (length point) (answers-refused (copyDecided p i (length point)) _ 1 e)
 
-    pub sum-never : {S : Type 0} (add : ℕ → List S → List E → List S) (zeroSum : S) (ws : List Weighted) (out : List S) → pointSumSpec add zeroSum p ws out .answer ≡ refused 1 → ⊥
+    pub sum-not-one : {S : Type 0} (add : ℕ → List S → List E → List S) (zeroSum : S) (ws : List Weighted) (out : List S) → pointSumSpec add zeroSum p ws out .answer ≡ refused 1 → ⊥
     unfolding pointSumSpec
-    sum-never add zeroSum ws out e =
+    sum-not-one add zeroSum ws out e =
         let wrong : Bool = not (eqb (length out) (p .header .dimensions)) in
         after (andThen (refuseIf wrong 3) (itemsDecided p ws)) (never-then 1 (refuseIf wrong 3) (itemsDecided p ws) (never-if 1 wrong 3 (λ z. omega arith)) (items-never p ws))
         (writes-refused _ out _ 1 e)
 
-    pub preview-never : (point out : List E) → shingledPointSpec p point out .answer ≡ refused 1 → ⊥
+    pub preview-not-one : (point out : List E) → shingledPointSpec p point out .answer ≡ refused 1 → ⊥
     unfolding shingledPointSpec previewDecided
-    preview-never point out e =
+    preview-not-one point out e =
         let s = p .header in
         let wrong : Bool = not (cond (previews s (length point)) (s .«internal_shingling») (eqb (length point) (s .dimensions)) && eqb (length out) (s .dimensions)) in
         after (refuseIf wrong 3) (never-if 1 wrong 3 (λ z. omega arith)) (writes-refused _ out _ 1 e)
 
-    pub missing-never : (lookAhead : ℕ) (values out : List ℕ) → missingIndicesSpec p lookAhead values out .answer ≡ refused 1 → ⊥
+    pub missing-not-one : (lookAhead : ℕ) (values out : List ℕ) → missingIndicesSpec p lookAhead values out .answer ≡ refused 1 → ⊥
     unfolding missingIndicesSpec indexListDecided
-    missing-never lookAhead values out e =
+    missing-not-one lookAhead values out e =
         let wrong : Bool = not (eqb (length out) (length values)) in
         let large : Bool = ltb 65535 lookAhead || not (valuesBelow (valueLimit (p .header)) values) in
         after (andThen (refuseIf wrong 3) (refuseIf large 11)) (never-then 1 (refuseIf wrong 3) (refuseIf large 11) (never-if 1 wrong 3 (λ z. omega arith)) (never-if 1 large 11 (λ z. omega arith)))
         (writes-refused _ out _ 1 e)
 
-    pub next-never : (lookAhead : ℕ) (out : List ℕ) → nextIndicesSpec p lookAhead out .answer ≡ refused 1 → ⊥
+    pub next-not-one : (lookAhead : ℕ) (out : List ℕ) → nextIndicesSpec p lookAhead out .answer ≡ refused 1 → ⊥
     unfolding nextIndicesSpec
-    next-never lookAhead out e = missing-never lookAhead (upTo (baseOf (p .header)) []) out e
+    next-not-one lookAhead out e = missing-not-one lookAhead (upTo (baseOf (p .header)) []) out e
 
-    pub label-never : (l : ℕ) → labelSpec p l ≡ refused 1 → ⊥
+    pub label-not-one : (l : ℕ) → labelSpec p l ≡ refused 1 → ⊥
     unfolding labelSpec reading.labelSpec
-    label-never l e = told-never (inUse (p .header .«store_labels») (p .header .capacity) (p .memory .labelCount) l) _ (rw w at e)
+    label-not-one l e = told-never (inUse (p .header .«store_labels») (p .header .capacity) (p .memory .labelCount) l) _ (rw w at e)
 
-    pub attribute-never : (l : ℕ) → attributeSpec p l ≡ refused 1 → ⊥
+    pub attribute-not-one : (l : ℕ) → attributeSpec p l ≡ refused 1 → ⊥
     unfolding attributeSpec reading.attributeSpec
-    attribute-never l e = told-never (inUse (p .header .«store_labels») (p .header .capacity) (p .memory .labelCount) l) _ (rw w at e)
+    attribute-not-one l e = told-never (inUse (p .header .«store_labels») (p .header .capacity) (p .memory .labelCount) l) _ (rw w at e)
 
-    pub attribute-vec-never : (l : ℕ) (out : List Float) → attributeVecSpec p l out .answer ≡ refused 1 → ⊥
+    pub attribute-vec-not-one : (l : ℕ) (out : List Float) → attributeVecSpec p l out .answer ≡ refused 1 → ⊥
     unfolding attributeVecSpec reading.attributeVecSpec
-    attribute-vec-never l out e = split (inUse (p .header .«store_labels») (p .header .capacity) (p .memory .labelCount) l) (eqb (length out) 10) (rw w at e)
+    attribute-vec-not-one l out e = split (inUse (p .header .«store_labels») (p .header .capacity) (p .memory .labelCount) l) (eqb (length out) 10) (rw w at e)
       where
         split : (a b : Bool) → told (cond a (cond b (reading.vectorOutcome reading.written (reading.oneHot (getD (p .memory .labelAttributes) l 0))) (reading.vectorOutcome (reading.refused 3) out)) (reading.vectorOutcome (reading.refused 6) out) .answer) ≡ refused 1 → ⊥
         split true true q = let z : _≡_ {A = ℕ} 0 1 = cc in omega arith

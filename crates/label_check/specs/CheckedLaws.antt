@@ -1,0 +1,102 @@
+-- Laws of the whole check: what each of its tests says of well-formedness.
+use Prim.Native.Nat.{ℕ, _≤_, _<_}
+use native.Mathlib.Omega.{arith}
+use mathlib.Core.List.{List}
+use mathlib.Core.Bool.{Bool, true, false}
+use mathlib.Core.Path.{_≡_, refl, sym, _∙_}
+use lib.ListN.{length, getD}
+use lib.Dec.{leb}
+use borrow.Author.Tests.{le-leb, leb-true}
+use Rattle.terms.specs.Below.{both, and-make, fails, everyBelow}
+use Rattle.interval_store_manager.specs.WellFormed.{wellFormed}
+use Rattle.interval_store_manager.specs.Sound as manager
+use Rattle.labels.specs.Labels.{Labels, labelCountAt, labelsWell}
+use Rattle.labels.specs.Sound.{Sound, sound}
+use Rattle.label_check.specs.Checks.{tablesLent, labelPasses, slotFits, Summed, MarksOf, labels-pass, slots-fit, passed}
+use Rattle.label_check.specs.CheckLaws.{LabelsLent, SlotsLent}
+
+-- a test that fails cannot hold
+clash : {b : Bool} → b ≡ true → b ≡ false → ⊥
+clash {b} e f = let q : true ≡ false = sym e ∙ f in let z : _≡_ {A = ℕ} 0 1 = cc in omega arith
+
+module _ (classes : List ℕ) (c : ℕ) (l : Labels) where
+  -- a fact of every well-formed label half that does not hold
+  refuted : (Sound classes c l → ⊥) → false ≡ labelsWell classes c l
+  refuted f = sym (fails (labelsWell classes c l) (λ e. f (sound classes c l e)))
+
+  pub label-capacity-other : (l .labelTable .manager .capacity ≡ c → ⊥) → false ≡ labelsWell classes c l
+  label-capacity-other d = refuted (λ w. d (w .label-table .whole))
+
+  pub slot-capacity-other : (l .attributeTable .manager .capacity ≡ c → ⊥) → false ≡ labelsWell classes c l
+  slot-capacity-other d = refuted (λ w. d (w .slot-table .whole))
+
+  abbrev lent : Bool
+  lent = tablesLent c (l .labels) (l .labelAttributes) (l .labelTable .counts) (l .attributes) (l .attributeTable .counts)
+
+  sound-lent : Sound classes c l → lent ≡ true
+  unfolding tablesLent
+  sound-lent w =
+      and-make _ _ (le-leb c (length (l .labels)) (w .codes-lent))
+      (and-make _ _ (le-leb c (length (l .labelAttributes)) (w .slots-lent))
+      (and-make _ _ (le-leb c (length (l .labelTable .counts)) (w .label-table .lent))
+      (and-make _ _ (le-leb c (length (l .attributes)) (w .classes-lent)) (le-leb c (length (l .attributeTable .counts)) (w .slot-table .lent)))))
+
+  pub not-lent : lent ≡ false → false ≡ labelsWell classes c l
+  not-lent e = refuted (λ w. clash (sound-lent w) e)
+
+  abbrev labelsManaged : Bool
+  labelsManaged = wellFormed (l .labelTable .manager) (l .labelTable .starts) (l .labelTable .ends)
+
+  abbrev slotsManaged : Bool
+  slotsManaged = wellFormed (l .attributeTable .manager) (l .attributeTable .starts) (l .attributeTable .ends)
+
+  pub labels-not-managed : labelsManaged ≡ false → false ≡ labelsWell classes c l
+  labels-not-managed e = refuted (λ w. clash (w .label-table .managed) e)
+
+  pub slots-not-managed : slotsManaged ≡ false → false ≡ labelsWell classes c l
+  slots-not-managed e = refuted (λ w. clash (w .slot-table .managed) e)
+
+  -- what the passes may rely on
+  most : labelsManaged ≡ true → l .labelTable .manager .capacity ≡ c → c ≤ 1024
+  most e q = omega (arith, q, manager.sound (l .labelTable .manager) (l .labelTable .starts) (l .labelTable .ends) e .most)
+
+  pub labels-lent : (marks : List ℕ) → labelsManaged ≡ true → l .labelTable .manager .capacity ≡ c → lent ≡ true → length marks ≡ 1024 → LabelsLent c (l .labels) (l .labelAttributes) (l .labelTable .counts) (l .attributes) marks
+  unfolding tablesLent
+  labels-lent marks e q t g =
+      let t1 = both (leb c (length (l .labels))) _ t in
+      let t2 = both (leb c (length (l .labelAttributes))) _ (t1 .1) in
+      let t3 = both (leb c (length (l .labelTable .counts))) _ (t2 .1) in
+      let t4 = both (leb c (length (l .attributes))) (leb c (length (l .attributeTable .counts))) (t3 .1) in
+      record {
+        most = most e q;
+        codes-lent = leb-true c (length (l .labels)) (t1 .0);
+        slots-lent = leb-true c (length (l .labelAttributes)) (t2 .0);
+        counts-lent = leb-true c (length (l .labelTable .counts)) (t3 .0);
+        classes-lent = leb-true c (length (l .attributes)) (t4 .0);
+        marks-lent = omega (arith, most e q, g);
+      }
+
+  pub slots-lent : (marks sums : List ℕ) → labelsManaged ≡ true → l .labelTable .manager .capacity ≡ c → lent ≡ true → length marks ≡ 1024 → length sums ≡ 1024 → SlotsLent c (l .attributes) (l .attributeTable .counts) marks sums
+  unfolding tablesLent
+  slots-lent marks sums e q t g h =
+      let t1 = both (leb c (length (l .labels))) _ t in
+      let t2 = both (leb c (length (l .labelAttributes))) _ (t1 .1) in
+      let t3 = both (leb c (length (l .labelTable .counts))) _ (t2 .1) in
+      let t4 = both (leb c (length (l .attributes))) (leb c (length (l .attributeTable .counts))) (t3 .1) in
+      record {
+        classes-lent = leb-true c (length (l .attributes)) (t4 .0);
+        counts-lent = leb-true c (length (l .attributeTable .counts)) (t4 .1);
+        marks-lent = omega (arith, most e q, g);
+        sums-lent = omega (arith, most e q, h);
+      }
+
+  -- a label that does not pass
+  pub labels-fail : (labelMarks : List ℕ) → MarksOf (l .labelTable) labelMarks → everyBelow c (λ i. labelPasses classes c (l .labels) (l .labelAttributes) (l .labelTable .counts) (l .attributes) labelMarks i) ≡ false → false ≡ labelsWell classes c l
+  labels-fail labelMarks lm e = refuted (λ w. clash (labels-pass classes c l labelMarks lm w) e)
+
+  -- with every label passed, the pass over the slots decides
+  pub slots-decide : (labelMarks slotMarks sums : List ℕ) → MarksOf (l .labelTable) labelMarks → MarksOf (l .attributeTable) slotMarks → labelsManaged ≡ true → slotsManaged ≡ true → l .labelTable .manager .capacity ≡ c → l .attributeTable .manager .capacity ≡ c → ((i : ℕ) → labelCountAt l i ≤ 65535) → lent ≡ true → everyBelow c (λ i. labelPasses classes c (l .labels) (l .labelAttributes) (l .labelTable .counts) (l .attributes) labelMarks i) ≡ true → Summed c (l .labelAttributes) (l .labelTable .counts) sums → (r : Bool) → r ≡ everyBelow c (λ s. slotFits (l .attributes) (l .attributeTable .counts) slotMarks sums s) → r ≡ labelsWell classes c l
+  slots-decide labelMarks slotMarks sums lm sm lw sw lc sc few t p e true f =
+      sym (passed classes c l labelMarks slotMarks sums lm sm lw sw lc sc few (most lw lc) t p e (sym f))
+  slots-decide labelMarks slotMarks sums lm sm lw sw lc sc few t p e false f =
+      refuted (λ w. clash (slots-fit classes c l slotMarks sums sm (most lw lc) e w) (sym f))

@@ -1,0 +1,4 @@
+pub mod Layable
+pub mod Compactable
+pub mod IndexTable
+pub mod OnePass

@@ -1,0 +1,3 @@
+mod EntryLaws
+mod PlaceLaws
+mod TableLaws

@@ -1,0 +1,42 @@
+-- What the check asks of each entry of the points' table, and of the places met so far.
+use Prim.Native.Nat.{ℕ, zero, suc, _+_, _*_, _≤_, _<_}
+use native.Mathlib.Omega.{arith}
+use mathlib.Core.Path.{_≡_}
+use mathlib.Core.List.{List}
+use mathlib.Core.Bool.{Bool, false, cond, _&&_, _||_, not, Bool·beq}
+use lib.ListN.{getD, set}
+use lib.Dec.{leb, eqb}
+use Rattle.terms.specs.Below.{everyBelow, countBelow}
+
+-- count 0 exactly where the index is marked free and exactly where the place is empty; a place that is not ends by the free start
+unfoldable pub entryWell : (base dims free mark count place : ℕ) → Bool
+entryWell base dims free mark count place =
+    Bool·beq (eqb mark 1) (eqb count 0)
+    && (Bool·beq (eqb count 0) (eqb place 65535) && (eqb place 65535 || leb (place * base + dims) free))
+
+unfoldable pub entriesWell : (n base dims free : ℕ) → (marks counts location : List ℕ) → Bool
+entriesWell n base dims free marks counts location =
+    everyBelow n (λ i. entryWell base dims free (getD marks i 0) (getD counts i 0) (getD location i 0))
+
+-- how many counts are above 0
+unfoldable pub countsLive : ℕ → List ℕ → ℕ
+countsLive n counts = countBelow n (λ i. not (eqb (getD counts i 0) 0))
+
+-- some index below n stands at a place
+unfoldable pub stands : ℕ → List ℕ → ℕ → Bool
+stands zero location place = false
+stands (suc n) location place = stands n location place || eqb place (getD location n 65535)
+
+-- a place that is empty or not marked, and the marks with it
+unfoldable pub placeFresh : ℕ → List ℕ → Bool
+placeFresh place marks = eqb place 65535 || not (eqb (getD marks place 0) 1)
+
+unfoldable pub placeMarked : ℕ → List ℕ → List ℕ
+placeMarked place marks = cond (eqb place 65535) marks (set marks place 1)
+
+-- the live places of the first n entries are below a limit
+abbrev pub PlacesBelow : ℕ → ℕ → List ℕ → Type 0
+PlacesBelow limit n location = (i : ℕ) → i < n → (getD location i 0 ≡ 65535 → ⊥) → getD location i 0 < limit
+
+pub below-larger : (a b n : ℕ) (location : List ℕ) → a ≤ b → PlacesBelow a n location → PlacesBelow b n location
+below-larger a b n location h p i l d = omega (arith, p i l d)

@@ -1,0 +1,4 @@
+pub mod Entries
+pub mod PointsTest
+pub mod Tables
+pub mod CheckLaws

@@ -1,0 +1,52 @@
+// The record's own clauses, and whether enough memory is lent.
+ghost use mathlib.Core.Path.{_≡_};
+ghost use Rattle.store_check.specs.CheckLaws.{recordTest};
+use crate::bounds::bounds_hold;
+use crate::bounds::free_start_well;
+use store_definitions::Store;
+
+// How many entries the lent slices of the rows and of the points have.
+pub struct Lengths {
+    pub floats: usize,
+    pub window: usize,
+    pub counts: usize,
+    pub places: usize,
+    pub starts: usize,
+    pub ends: usize,
+}
+
+pub fn record_well(s: Store, lent: Lengths) -> bool
+    ensures { λ r. ⌜ r ≡ recordTest s (lent .floats) (lent .window) (lent .counts) (lent .places) (lent .starts) (lent .ends) ⌝ }
+{
+    let dimensions = s.dimensions;
+    let capacity = s.capacity;
+    if bounds_hold(dimensions, s.shingle_size, capacity) {
+        if lent.floats < capacity * dimensions {
+            return false;
+        }
+        if lent.window < dimensions {
+            return false;
+        }
+        if lent.counts < capacity {
+            return false;
+        }
+        if lent.places < capacity {
+            return false;
+        }
+        if lent.starts < capacity {
+            return false;
+        }
+        if lent.ends < capacity {
+            return false;
+        }
+        let manager = s.index_manager;
+        if capacity < manager.capacity {
+            return false;
+        }
+        if capacity * dimensions < s.store_length {
+            return false;
+        }
+        return free_start_well(s);
+    }
+    false
+}
