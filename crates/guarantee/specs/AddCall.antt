@@ -37,10 +37,12 @@ use Rattle.store_laws.specs.Sound.{Sound}
 use Rattle.store_laws.specs.PlacesLaws.{live-make, live-placed}
 use Rattle.store_laws.specs.RowsLaws.{RowsOf, room-sound, room-empty}
 use Rattle.store_laws.specs.PointsLaws.{with-labels}
-use Rattle.store_laws.specs.Lengths.{by-cases}
+use Rattle.store_laws.specs.Cases.{by-cases}
 use Rattle.store_laws.specs.TableLaws.{filled-length, filled-before, filled-new, as-it-is, grown-ready}
 use Rattle.store_laws.specs.LaidLaws.{laying}
-use Rattle.store_laws.specs.AddingLaws.{Kept, row-length, can-grow, kept-sound}
+use Rattle.store_laws.specs.AddDecisionLaws.{Kept}
+use Rattle.store_laws.specs.WindowLaws.{row-length}
+use Rattle.store_laws.specs.AddingLaws.{can-grow, kept-sound}
 use Rattle.guarantee.specs.History.{Given, History, isLive, gave, changed as changedHistory, joinedPoints, rowOfAdd, withPoints as withAccepted}
 use Rattle.guarantee.specs.Relates.{CopyStands, Relates}
 use Rattle.guarantee.specs.RoomLaws.{copyIn, room-copy, room-length}

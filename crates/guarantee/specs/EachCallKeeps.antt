@@ -17,10 +17,11 @@ use Rattle.store_definitions.specs.Rows.{compactedRows, roomMade, compactSpec}
 use Rattle.store_definitions.specs.Adding.{AddDecided, keep, wait, refuseAdd, addDecided, sequenced, rowOf, labelGiven, overflows, laidHow, keptAfter, indexGiven, keeps, addCarriedOut, addSpec}
 use Rattle.store_definitions.specs.WellFormed.{wellFormed}
 use Rattle.store_laws.specs.Sound.{Sound, sound}
-use Rattle.store_laws.specs.Lengths.{by-cases}
+use Rattle.store_laws.specs.Cases.{by-cases}
 use Rattle.store_laws.specs.CountingLaws.{inc-keeps, dec-keeps, adjust-keeps}
 use Rattle.store_laws.specs.RowsLaws.{compact-keeps}
-use Rattle.store_laws.specs.AddingLaws.{waits-on, keeps-on, add-keeps}
+use Rattle.store_laws.specs.AddDecisionLaws.{waits-on, keeps-on}
+use Rattle.store_laws.specs.AddingLaws.{add-keeps}
 use Rattle.guarantee.specs.Run.{Call, add, inc, dec, adjust, compact, called}
 use Rattle.guarantee.specs.History.{Given, History, accepted, placeIn, rowOfAdd, recorded, changedBy, standing, pairsChanges}
 use Rattle.guarantee.specs.Relates.{Relates}

@@ -20,7 +20,7 @@ use Rattle.store_definitions.specs.Rows.{roomMade}
 use Rattle.store_definitions.specs.Adding.{AddDecided, keep, wait, refuseAdd, thenAdd, addDecided, pointLength, waits, tableFull, rowOf, labelGiven, overflows, laidHow, keptAfter, indexGiven, keeps, addCarriedOut, addSpec}
 use Rattle.store_definitions.specs.WellFormed.{wellFormed}
 use Rattle.store_laws.specs.Sound.{Sound, sound}
-use Rattle.store_laws.specs.AddingLaws.{keeps-on}
+use Rattle.store_laws.specs.AddDecisionLaws.{keeps-on}
 use Rattle.guarantee.specs.History.{Given, History}
 use Rattle.guarantee.specs.Guarantee.{liveIndices}
 use Rattle.guarantee.specs.Relates.{Relates}
