@@ -1,41 +1,20 @@
 -- The list guarantee is not empty: instantiated at the worked lists, it gives what the lists show.
 use Prim.Native.Nat.{ℕ, _+_, _*_, _≤_, _<_}
 use native.Mathlib.Omega.{arith}
-use mathlib.Core.Bool.{Bool, true, false}
+use mathlib.Core.Bool.{true}
 use mathlib.Core.List.{List, [], _∷_}
 use mathlib.Core.Path.{_≡_, refl, ap, _∙_}
-use lib.ListN.{take, replicate}
+use lib.ListN.{replicate}
 use lib.Dec.{eqb}
-use Rattle.terms.specs.Below.{everyBelow, sumBelow, countBelow}
-use Rattle.terms.specs.Rows.{allEqual}
-use Rattle.interval_store_manager.specs.Calls.{pushed, changed, taken, released}
-use Rattle.interval_store_manager.specs.Intervals.{inside, holders, isFree, inBounds, noneShared}
-use Rattle.interval_store_manager.specs.WellFormed.{capacityAllowed, lentEnough as stackLent, wellFormed as managerWellFormed}
-use Rattle.placement.specs.declared.Laid.the-variants.{Whole}
+use Rattle.terms.specs.Below.{sumBelow}
 use Rattle.placement.specs.Alike.{Alike}
-use Rattle.placement.specs.Alignment.{wrappingSub, wrappingAdd, alignment, zerosBefore}
 use Rattle.placement.specs.AlignmentLaws.{pointRoom}
-use Rattle.placement.specs.Compaction.{holds, liveBelow, moved, grownBlocks, blocks, blockMoves, copiedDown, settled, blockDown, blocksDown, writtenByBlocks, compacted}
-use Rattle.placement.specs.Copying.{turn, turned, copied}
-use Rattle.placement.specs.Growth.{grown}
-use Rattle.placement.specs.Laying.{writtenCount, laidAs, laidElements, laidFree, placeOf}
-use Rattle.placement.specs.Overlap.{overlaps}
-use Rattle.placement.specs.Row.{rowToLay, movedWindow}
-use Rattle.labels.specs.Counted.{countedWell, indexTaken, raised, lowered, liveNumber}
-use Rattle.labels.specs.Decisions.{none, codeDecided, roomDecided, incDecided, decDecided}
-use Rattle.store_definitions.specs.declared.Shape.{Shape}
-use Rattle.store_definitions.specs.Memory.{Memory, PointStore}
-use Rattle.store_definitions.specs.Answers.{Answer, kept, done, is, refused}
-use Rattle.store_definitions.specs.Opening.{opens, openDecided, openedMemory, opened, openSpec}
-use Rattle.store_definitions.specs.Counting.{Pairing, incTest, incremented, incSpec, pairDecided, pairDone, adjustFrom, adjustSpec, decTest, placeAfterDec, decremented, decSpec, countSpec, liveNumberSpec, freeStartSpec}
-use Rattle.store_definitions.specs.Rows.{compactedRows, grownRows, short, roomMade, compactSpec, copyOf, copyDecided, copySpec}
-use Rattle.store_definitions.specs.Adding.{pointLength, waits, tableFull, entriesFilled, addDecided, windowAfter, sequenced, rowOf, labelGiven, labelled, tableGrown, placed, joins, overflows, laidRows, laidHow, keptAfter, indexGiven, keeps, addSpec}
-use Rattle.store_definitions.specs.Bounds.{boundsHold, startAllowed, rotationAllowed, lentEnough}
-use Rattle.store_definitions.specs.Decisions.{formDecided, live, touchDecided}
-use Rattle.store_definitions.specs.WellFormed.{freeStartWell, placesDistinct, placesEnd, pointsWell, wellFormed}
-use Rattle.guarantee.specs.Calls.{openCall, copyCall, countCall, liveNumberCall, freeStartCall}
-use Rattle.guarantee.specs.Run.{Call, add, inc, dec, adjust, compact, after, answerTo}
-use Rattle.guarantee.specs.History.{Given, Life, dead, alive, History, pairChanges, pairsChanges, joinedPoints, rowOfAdd, changedBy, recorded, history}
+use Rattle.placement.specs.Copying.{turn, turned}
+use Rattle.labels.specs.Decisions.{none}
+use Rattle.store_definitions.specs.Answers.{done, is, refused}
+use Rattle.guarantee.specs.Calls.{copyCall, countCall, liveNumberCall}
+use Rattle.guarantee.specs.Run.{Call, add, dec, after}
+use Rattle.guarantee.specs.History.{history}
 use Rattle.guarantee.specs.Guarantee.{countAnswer, numberIn, liveIndices, Guarantee}
 use Rattle.guarantee.specs.Theorem.{guaranteed}
 use Rattle.guarantee.specs.WorkedLists.{shape, rubbish, fresh, opens-fresh, listA, listB, listC, listFour, listFive, listD, listAdjust, store, small, listSmall, opens-turning, gave, computed, said}

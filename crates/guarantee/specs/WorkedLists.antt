@@ -1,10 +1,9 @@
 -- Document 01's worked windows A to D as lists of calls, and two smaller lists: what the calls and their answers say, and each
 -- clause of the guarantee computed. Elements are numbers, compared as such; the memory lent to each opening holds rubbish.
-use Prim.Native.Nat.{ℕ, _+_, _*_, _≤_, _<_}
-use native.Mathlib.Omega.{arith}
+use Prim.Native.Nat.{ℕ, _*_}
 use mathlib.Core.Bool.{Bool, true, false}
 use mathlib.Core.List.{List, [], _∷_}
-use mathlib.Core.Path.{_≡_, refl, ap, _∙_}
+use mathlib.Core.Path.{_≡_, refl}
 use lib.ListN.{take, replicate}
 use lib.Dec.{eqb}
 use Rattle.terms.specs.Below.{everyBelow, sumBelow, countBelow}
@@ -13,7 +12,6 @@ use Rattle.interval_store_manager.specs.Calls.{pushed, changed, taken, released
 use Rattle.interval_store_manager.specs.Intervals.{inside, holders, isFree, inBounds, noneShared}
 use Rattle.interval_store_manager.specs.WellFormed.{capacityAllowed, lentEnough as stackLent, wellFormed as managerWellFormed}
 use Rattle.placement.specs.declared.Laid.the-variants.{Whole}
-use Rattle.placement.specs.Alike.{Alike}
 use Rattle.placement.specs.Alignment.{wrappingSub, wrappingAdd, alignment, zerosBefore}
 use Rattle.placement.specs.AlignmentLaws.{pointRoom}
 use Rattle.placement.specs.Compaction.{holds, liveBelow, moved, grownBlocks, blocks, blockMoves, copiedDown, settled, blockDown, blocksDown, writtenByBlocks, compacted}
@@ -26,7 +24,7 @@ use Rattle.labels.specs.Counted.{countedWell, indexTaken, raised, lowered, live
 use Rattle.labels.specs.Decisions.{none, codeDecided, roomDecided, incDecided, decDecided}
 use Rattle.store_definitions.specs.declared.Shape.{Shape}
 use Rattle.store_definitions.specs.Memory.{Memory, PointStore}
-use Rattle.store_definitions.specs.Answers.{Answer, kept, done, is, refused}
+use Rattle.store_definitions.specs.Answers.{Answer, kept, is, refused}
 use Rattle.store_definitions.specs.Opening.{opens, openDecided, openedMemory, opened, openSpec}
 use Rattle.store_definitions.specs.Counting.{Pairing, incTest, incremented, incSpec, pairDecided, pairDone, adjustFrom, adjustSpec, decTest, placeAfterDec, decremented, decSpec, countSpec, liveNumberSpec, freeStartSpec}
 use Rattle.store_definitions.specs.Rows.{compactedRows, grownRows, short, roomMade, compactSpec, copyOf, copyDecided, copySpec}
@@ -36,8 +34,8 @@ use Rattle.store_definitions.specs.Decisions.{formDecided, live, touchDecided}
 use Rattle.store_definitions.specs.WellFormed.{freeStartWell, placesDistinct, placesEnd, pointsWell, wellFormed}
 use Rattle.guarantee.specs.Calls.{openCall, copyCall, countCall, liveNumberCall, freeStartCall}
 use Rattle.guarantee.specs.Run.{Call, add, inc, dec, adjust, compact, after, answerTo}
-use Rattle.guarantee.specs.History.{Given, Life, dead, alive, History, pairChanges, pairsChanges, joinedPoints, rowOfAdd, changedBy, recorded, history}
-use Rattle.guarantee.specs.Guarantee.{countAnswer, numberIn, liveIndices, Guarantee}
+use Rattle.guarantee.specs.History.{Given, dead, alive, History, pairChanges, pairsChanges, joinedPoints, rowOfAdd, changedBy, recorded, history}
+use Rattle.guarantee.specs.Guarantee.{numberIn, liveIndices}
 
 -- dimensions 4, shingle size 2, internal shingling, labels off, capacity 10, start 5, no rotation
 abbrev pub shape : Shape
