@@ -1,24 +1,21 @@
 -- Add keeps the invariant: waiting, refused for float space, or kept.
-use Prim.Native.Nat.{ℕ, zero, suc, _+_, _*_, _-_, _/_, _≤_, _<_}
+use Prim.Native.Nat.{ℕ, _+_, _*_, _-_, _/_, _≤_, _<_}
 use native.Mathlib.Nat.{mul-comm}
-use native.Mathlib.Decide.{decLt}
 use native.Mathlib.Omega.{arith}
-use mathlib.Core.Bool.{Bool, true, false, cond, not, _&&_, false≢true}
-use mathlib.Core.List.{List, [], _∷_, _++_}
+use mathlib.Core.Bool.{Bool, true, false, cond, not, _&&_}
+use mathlib.Core.List.{List, _∷_}
 use mathlib.Core.Path.{_≡_, refl, sym, ap, subst, _∙_}
-use lib.ListN.{length, getD, take, drop}
+use lib.ListN.{length, getD, take}
 use lib.Seq.{getD-take}
 use lib.Dec.{eqb, ltb}
-use borrow.Author.Tests.{eq-eqb, ne-eqb, eqb-true, eqb-false, ltb-false, lt-ltb}
+use borrow.Author.Tests.{ne-eqb, eqb-true, eqb-false, ltb-false}
 use Rattle.terms.specs.Below.{positive}
 use Rattle.interval_store_manager.specs.Calls.{Decided, go, refuse, changed}
-use Rattle.interval_store_manager.specs.ChangeLaws.{changed-up}
 use Rattle.placement.specs.Alike.{Alike}
 use Rattle.placement.specs.Copying.{turn, turned, copied}
 use Rattle.placement.specs.Growth.{grown, grown-within}
-use Rattle.placement.specs.Laying.{laidElements, laidAs, placeOf}
+use Rattle.placement.specs.Laying.{placeOf}
 use Rattle.placement.specs.LayingLaws.{copy-laid, copy-before}
-use Rattle.placement.specs.Places.{Live}
 use Rattle.placement.specs.Row.{rowToLay}
 use Rattle.labels.specs.Counted.{Counted, counted, nextIndex}
 use Rattle.labels.specs.Decisions.{codeDecided, roomDecided}
@@ -28,9 +25,9 @@ use Rattle.store_definitions.specs.declared.Shape.{Shape}
 use Rattle.store_definitions.specs.declared.Store.{Store}
 use Rattle.store_definitions.specs.Memory.{PointStore}
 use Rattle.store_definitions.specs.Parts.{baseOf, tableLength, pointTable, labelHalf, Rows, rowsOf, withRows, withPoints, withLabels}
-use Rattle.store_definitions.specs.Decisions.{andThen, refuseIf, formDecided, touchDecided, live}
-use Rattle.store_definitions.specs.Rows.{roomMade, copyOf, copyDecided, copySpec}
-use Rattle.store_definitions.specs.Adding.{pointLength, waits, tableFull, entriesFilled, AddDecided, keep, wait, refuseAdd, thenAdd, addDecided, windowAfter, sequenced, rowOf, labelled, tableGrown, placed, joins, overflows, laidRows, laidHow, keptAfter, indexGiven}
+use Rattle.store_definitions.specs.Decisions.{andThen, refuseIf, formDecided}
+use Rattle.store_definitions.specs.Rows.{roomMade, copyOf}
+use Rattle.store_definitions.specs.Adding.{pointLength, waits, tableFull, entriesFilled, AddDecided, keep, wait, thenAdd, addDecided, windowAfter, sequenced, rowOf, labelled, tableGrown, placed, joins, overflows, laidRows, laidHow, keptAfter, indexGiven}
 use Rattle.store_definitions.specs.WellFormed.{classTable}
 use Rattle.store_laws.specs.BoundsLaws.{dims-product}
 use Rattle.store_laws.specs.Sound.{Sound}
@@ -38,13 +35,13 @@ use Rattle.store_laws.specs.PlacesLaws.{live-make, live-placed}
 use Rattle.store_laws.specs.RowsLaws.{RowsOf, room-sound, room-empty}
 use Rattle.store_laws.specs.PointsLaws.{with-labels}
 use Rattle.store_laws.specs.Cases.{by-cases}
-use Rattle.store_laws.specs.TableLaws.{filled-length, filled-before, filled-new, as-it-is, grown-ready}
+use Rattle.store_laws.specs.TableLaws.{filled-length, filled-before, filled-new, grown-ready}
 use Rattle.store_laws.specs.LaidLaws.{laying}
 use Rattle.store_laws.specs.AddDecisionLaws.{Kept}
 use Rattle.store_laws.specs.WindowLaws.{row-length}
 use Rattle.store_laws.specs.AddingLaws.{can-grow, kept-sound}
 use Rattle.guarantee.specs.History.{Given, History, isLive, gave, changed as changedHistory, joinedPoints, rowOfAdd, withPoints as withAccepted}
-use Rattle.guarantee.specs.Relates.{CopyStands, Relates}
+use Rattle.guarantee.specs.Relates.{Relates}
 use Rattle.guarantee.specs.RoomLaws.{copyIn, room-copy, room-length}
 use Rattle.guarantee.specs.CountCalls.{labels-aside}
 use Rattle.guarantee.specs.RowCalls.{rows-kept, live-point}

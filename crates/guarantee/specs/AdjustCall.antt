@@ -1,22 +1,22 @@
 -- Adjust keeps the invariant: pair by pair, up to the refused one.
-use Prim.Native.Nat.{ℕ, zero, suc, _+_, _≤_, _<_}
+use Prim.Native.Nat.{ℕ, suc, _+_}
 use native.Mathlib.Omega.{arith}
 use mathlib.Core.Bool.{Bool, true, false, cond}
 use mathlib.Core.List.{List, [], _∷_, _++_}
-use mathlib.Core.Path.{_≡_, refl, sym, ap, subst, _∙_}
+use mathlib.Core.Path.{_≡_, refl, sym, ap, subst}
 use lib.ListN.{length, take}
 use lib.Seq.{take-all}
 use lib.Dec.{eqb}
 use Rattle.interval_store_manager.specs.Calls.{Decided, go, refuse}
-use Rattle.labels.specs.Decisions.{none, incDecided, decDecided}
+use Rattle.labels.specs.Decisions.{none}
 use Rattle.store_definitions.specs.declared.Shape.{Shape}
 use Rattle.store_definitions.specs.Memory.{PointStore}
 use Rattle.store_definitions.specs.Answers.{Answer, done, refusedAfter, Outcome}
-use Rattle.store_definitions.specs.Decisions.{andThen, touchDecided}
+use Rattle.store_definitions.specs.Decisions.{touchDecided}
 use Rattle.store_definitions.specs.Counting.{Pairing, incTest, decTest, incremented, decremented, pairDecided, pairDone, pairCarriedOut, adjustFrom}
 use Rattle.store_laws.specs.Sound.{Sound}
 use Rattle.store_laws.specs.DecisionLaws.{both-go, touch-go}
-use Rattle.store_laws.specs.CountingLaws.{inc-accepted, dec-accepted, pair-accepted}
+use Rattle.store_laws.specs.CountingLaws.{inc-accepted, pair-accepted}
 use Rattle.guarantee.specs.History.{Given, History, Change, inced, deced, changed, changedBy, standing, pairChanges, pairsChanges}
 use Rattle.guarantee.specs.Relates.{Relates}
 use Rattle.guarantee.specs.CountCalls.{inc-kept, dec-kept}

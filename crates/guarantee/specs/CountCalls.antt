@@ -1,10 +1,10 @@
 -- Inc and dec keep the invariant.
-use Prim.Native.Nat.{ℕ, _+_, _*_, _-_, _≤_, _<_}
+use Prim.Native.Nat.{ℕ, _+_, _-_, _<_}
 use native.Mathlib.Decide.{ℕ-discrete}
 use native.Mathlib.Omega.{arith}
 use mathlib.Core.Bool.{Bool, true, false, cond}
 use mathlib.Core.List.{List}
-use mathlib.Core.Path.{_≡_, refl, sym, ap, subst, _∙_}
+use mathlib.Core.Path.{_≡_, sym, ap, _∙_}
 use lib.ListN.{getD, set}
 use lib.Seq.{getD-set-same, getD-set-other}
 use lib.Dec.{eqb}
@@ -20,7 +20,7 @@ use Rattle.store_definitions.specs.Parts.{tableLength, pointTable, withLabels}
 use Rattle.store_definitions.specs.Counting.{incremented, decremented, placeAfterDec}
 use Rattle.store_definitions.specs.Rows.{copyOf}
 use Rattle.store_laws.specs.Sound.{Sound}
-use Rattle.guarantee.specs.History.{Given, alive, count, isLive, History, inced, deced, incedLife, decedLife, changed}
+use Rattle.guarantee.specs.History.{Given, alive, count, isLive, History, inced, deced, decedLife, changed}
 use Rattle.guarantee.specs.LifeLaws.{inced-count, inced-live, inced-counted, inced-since, deced-count, deced-live, deced-was-live, deced-counted, deced-since}
 use Rattle.guarantee.specs.Relates.{Relates}
 

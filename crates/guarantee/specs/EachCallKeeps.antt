@@ -1,12 +1,9 @@
 -- Each call, accepted or refused, keeps the invariant.
 use Prim.Native.Nat.{ℕ}
-use native.Mathlib.Omega.{arith}
-use mathlib.Core.Bool.{Bool, true, false, cond}
-use mathlib.Core.List.{List, [], _∷_}
-use mathlib.Core.Path.{_≡_, refl, sym, ap, subst, _∙_}
-use lib.ListN.{take}
+use mathlib.Core.Bool.{Bool, true}
+use mathlib.Core.List.{List, _∷_}
+use mathlib.Core.Path.{_≡_, refl}
 use Rattle.interval_store_manager.specs.Calls.{Decided, go, refuse}
-use Rattle.placement.specs.Laying.{placeOf}
 use Rattle.store_definitions.specs.declared.Shape.{Shape}
 use Rattle.store_definitions.specs.Memory.{PointStore}
 use Rattle.store_definitions.specs.Answers.{Answer, kept, refused, done, Outcome, outcome}
@@ -14,16 +11,16 @@ use Rattle.store_definitions.specs.Parts.{rowsOf, withRows}
 use Rattle.store_definitions.specs.Decisions.{formDecided, carriedOut}
 use Rattle.store_definitions.specs.Counting.{Pairing, incTest, decTest, incremented, decremented, incSpec, decSpec, adjustFrom, adjustSpec}
 use Rattle.store_definitions.specs.Rows.{compactedRows, roomMade, compactSpec}
-use Rattle.store_definitions.specs.Adding.{AddDecided, keep, wait, refuseAdd, addDecided, sequenced, rowOf, labelGiven, overflows, laidHow, keptAfter, indexGiven, keeps, addCarriedOut, addSpec}
+use Rattle.store_definitions.specs.Adding.{AddDecided, keep, wait, refuseAdd, addDecided, rowOf, labelGiven, overflows, laidHow, keptAfter, indexGiven, keeps, addCarriedOut, addSpec}
 use Rattle.store_definitions.specs.WellFormed.{wellFormed}
-use Rattle.store_laws.specs.Sound.{Sound, sound}
+use Rattle.store_laws.specs.Sound.{Sound}
 use Rattle.store_laws.specs.Cases.{by-cases}
 use Rattle.store_laws.specs.CountingLaws.{inc-keeps, dec-keeps, adjust-keeps}
 use Rattle.store_laws.specs.RowsLaws.{compact-keeps}
 use Rattle.store_laws.specs.AddDecisionLaws.{waits-on, keeps-on}
 use Rattle.store_laws.specs.AddingLaws.{add-keeps}
 use Rattle.guarantee.specs.Run.{Call, add, inc, dec, adjust, compact, called}
-use Rattle.guarantee.specs.History.{Given, History, accepted, placeIn, rowOfAdd, recorded, changedBy, standing, pairsChanges}
+use Rattle.guarantee.specs.History.{Given, History, accepted, placeIn, rowOfAdd, recorded, changedBy}
 use Rattle.guarantee.specs.Relates.{Relates}
 use Rattle.guarantee.specs.AdjustCall.{standing-is, inc-accepted-kept, dec-accepted-kept, pairs-kept}
 use Rattle.guarantee.specs.RowCalls.{compact-kept, room-kept}

@@ -1,25 +1,21 @@
 -- An add is refused for float space only as the guarantee says.
 use Prim.Native.Nat.{ℕ, _+_, _*_, _/_, _<_}
 use native.Mathlib.Omega.{arith}
-use mathlib.Core.Bool.{Bool, true, false, cond, not, _&&_}
+use mathlib.Core.Bool.{Bool, true, false, cond}
 use mathlib.Core.List.{List}
 use mathlib.Core.Path.{_≡_, refl, sym, ap, _∙_}
-use lib.ListN.{length}
-use lib.Dec.{eqb, ltb}
-use Rattle.interval_store_manager.specs.Calls.{Decided, go, refuse}
+use Rattle.interval_store_manager.specs.Calls.{go, refuse}
 use Rattle.placement.specs.AlignmentLaws.{pointRoom}
 use Rattle.placement.specs.declared.Laid.{Laid}
-use Rattle.labels.specs.Counted.{liveNumber}
-use Rattle.labels.specs.Decisions.{codeDecided, roomDecided}
 use Rattle.store_definitions.specs.declared.Shape.{Shape}
 use Rattle.store_definitions.specs.Memory.{PointStore}
 use Rattle.store_definitions.specs.Answers.{kept, refused, outcome}
-use Rattle.store_definitions.specs.Parts.{tableLength, pointTable, rowsOf, withRows}
-use Rattle.store_definitions.specs.Decisions.{andThen, refuseIf, formDecided}
+use Rattle.store_definitions.specs.Parts.{rowsOf, withRows}
 use Rattle.store_definitions.specs.Rows.{roomMade}
-use Rattle.store_definitions.specs.Adding.{AddDecided, keep, wait, refuseAdd, thenAdd, addDecided, pointLength, waits, tableFull, rowOf, labelGiven, overflows, laidHow, keptAfter, indexGiven, keeps, addCarriedOut, addSpec}
+use Rattle.store_definitions.specs.Adding.{AddDecided, keep, wait, refuseAdd, addDecided, rowOf, labelGiven, overflows, laidHow, keptAfter, indexGiven, keeps, addCarriedOut, addSpec}
 use Rattle.store_definitions.specs.WellFormed.{wellFormed}
-use Rattle.store_laws.specs.Sound.{Sound, sound}
+use Rattle.store_laws.specs.Sound.{sound}
+use Rattle.store_laws.specs.RefusalLaws.{add-never}
 use Rattle.store_laws.specs.AddDecisionLaws.{keeps-on}
 use Rattle.guarantee.specs.History.{Given, History}
 use Rattle.guarantee.specs.Guarantee.{liveIndices}
@@ -28,51 +24,20 @@ use Rattle.guarantee.specs.SpaceLaws.{refused-bound, unturned-fits}
 use Rattle.guarantee.specs.RowCalls.{live-number-is}
 use Rattle.guarantee.specs.EachCallKeeps.{formed}
 
--- before room is made, nothing is refused with 10
-abbrev NotTen : Decided → Type 0
-NotTen d = d ≡ refuse 10 → ⊥
-
-abbrev NotTenAdd : AddDecided → Type 0
-NotTenAdd a = a ≡ refuseAdd 10 → ⊥
-
-if-not-ten : (b : Bool) (n : ℕ) → (n ≡ 10 → ⊥) → NotTen (refuseIf b n)
-if-not-ten true n d e = d (let q : n ≡ 10 = cc in q)
-if-not-ten false n d e = let z : _≡_ {A = ℕ} 0 1 = cc in omega arith
-
-both-not-ten : (a b : Decided) → NotTen a → NotTen b → NotTen (andThen a b)
-both-not-ten go b f g = g
-both-not-ten (refuse n) b f g = f
-
-then-not-ten : (d : Decided) (a : AddDecided) → NotTen d → NotTenAdd a → NotTenAdd (thenAdd d a)
-then-not-ten go a f g = g
-then-not-ten (refuse n) a f g = λ e. f (let q : n ≡ 10 = cc in ap refuse q)
-
-wait-not-ten : (b : Bool) (a : AddDecided) → NotTenAdd a → NotTenAdd (cond b wait a)
-wait-not-ten true a f e = let z : _≡_ {A = ℕ} 0 1 = cc in omega arith
-wait-not-ten false a f e = f e
-
 full-room : {E : Type 0} (b : Bool) (x y : PointStore E) (i l : ℕ) (laid : Laid) → cond b (outcome (refused 10) x) (outcome (kept i l laid) y) .answer ≡ refused 10 → b ≡ true
 full-room true x y i l laid e = refl
 full-room false x y i l laid e = absurd (let z : _≡_ {A = ℕ} 0 1 = cc in omega arith)
 
 module _ {E : Type 0} (eq : E → E → Bool) (zeroElement : E) (p : PointStore E) (point : List E) (code : ℕ) where
-  decided-not-ten : wellFormed p ≡ true → NotTenAdd (addDecided p point code)
-  unfolding addDecided codeDecided roomDecided
+  -- before room is made, nothing is refused with 10
+  decided-not-ten : wellFormed p ≡ true → addDecided p point code ≡ refuseAdd 10 → ⊥
   decided-not-ten f =
-      rw (formed p f)
-      (then-not-ten
-      (andThen (refuseIf (not (eqb (length point) (pointLength (p .header)))) 3)
-      (andThen (refuseIf (eqb (p .header .«next_sequence_index») 4294967295) 12) (codeDecided (p .header .«store_labels») code)))
-      _
-      (both-not-ten (refuseIf (not (eqb (length point) (pointLength (p .header)))) 3) _ (if-not-ten (not (eqb (length point) (pointLength (p .header)))) 3 (λ e. omega arith))
-      (both-not-ten (refuseIf (eqb (p .header .«next_sequence_index») 4294967295) 12) (codeDecided (p .header .«store_labels») code) (if-not-ten (eqb (p .header .«next_sequence_index») 4294967295) 12 (λ e. omega arith))
-      (if-not-ten (p .header .«store_labels» && ltb 23 code) 4 (λ e. omega arith))))
-      (wait-not-ten (waits (p .header)) _
-      (then-not-ten (andThen (roomDecided (p .header .«store_labels») (p .header .«label_manager»)) (refuseIf (tableFull (p .header)) 9)) keep
-      (both-not-ten (roomDecided (p .header .«store_labels») (p .header .«label_manager»)) (refuseIf (tableFull (p .header)) 9)
-      (if-not-ten (p .header .«store_labels» && eqb (p .header .«label_manager» .last_in_use) 0) 8 (λ e. omega arith))
-      (if-not-ten (tableFull (p .header)) 9 (λ e. omega arith)))
-      (λ e. let z : _≡_ {A = ℕ} 0 1 = cc in omega arith))))
+      add-never 10 p point code (λ e. let z : _≡_ {A = ℕ} 0 1 = let t : go ≡ refuse 10 = sym (formed p f) ∙ e in cc in omega arith)
+      (λ e. omega arith)
+      (λ e. omega arith)
+      (λ e. omega arith)
+      (λ e. omega arith)
+      (λ e. omega arith)
 
   -- 10: the add is kept but for its row
   ten : wellFormed p ≡ true → addSpec eq zeroElement p point code .answer ≡ refused 10

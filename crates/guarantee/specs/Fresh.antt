@@ -1,15 +1,15 @@
 -- A fresh store stands to the empty history as the invariant says.
-use Prim.Native.Nat.{ℕ, zero, suc, _+_, _*_, _-_, _/_, _≤_, _<_}
+use Prim.Native.Nat.{ℕ, zero, suc, _*_, _-_, _/_, _≤_, _<_}
 use native.Mathlib.Nat.{mul-le-mul-right}
 use native.Mathlib.Decide.{decLt}
 use native.Mathlib.Omega.{arith}
-use mathlib.Core.Bool.{Bool, true, false, false≢true}
+use mathlib.Core.Bool.{Bool, false≢true}
 use mathlib.Core.List.{List, []}
 use mathlib.Core.Logic.{_⊎_, inl, inr}
 use mathlib.Core.Path.{_≡_, refl, _∙_}
 use lib.ListN.{length, getD, take, drop}
 use lib.Seq.{drop-length, length-take-le}
-use Rattle.terms.specs.Below.{sumBelow, sum-same, sum-zeros}
+use Rattle.terms.specs.Below.{sum-same, sum-zeros}
 use Rattle.store_definitions.specs.declared.Shape.{Shape}
 use Rattle.store_definitions.specs.Memory.{Memory, PointStore}
 use Rattle.store_definitions.specs.Parts.{labelHalf}

@@ -1,7 +1,7 @@
 -- The list guarantee: what holds after every list of calls on a fresh store. One record, with a field for each clause. What is
 -- said of calls is said of their answers alone; the history comes from the calls and their answers.
 use Prim.Native.Nat.{ℕ, _+_, _*_, _/_, _≤_, _<_}
-use mathlib.Core.Bool.{Bool, true, false}
+use mathlib.Core.Bool.{Bool, true}
 use mathlib.Core.List.{List, [], _∷_}
 use mathlib.Core.Path.{_≡_}
 use lib.ListN.{length, getD}

@@ -2,6 +2,7 @@ pub mod Calls
 pub mod Run
 pub mod History
 pub mod Guarantee
+pub mod WorkedLists
 pub mod Relates
 pub mod LifeLaws
 pub mod CountCalls
@@ -17,5 +18,5 @@ pub mod EachCallKeeps
 pub mod Fresh
 pub mod FloatSpace
 pub mod Theorem
-pub mod WorkedList
 pub mod FloatRows
+pub mod WorkedGuarantee

@@ -1,16 +1,13 @@
 -- Compaction, growth and the room that an add makes: every live index's copy stays, and when float space runs out.
-use Prim.Native.Nat.{ℕ, zero, suc, _+_, _*_, _-_, _/_, _≤_, _<_}
-use native.Mathlib.Nat.{suc-mul, mul-le-mul-right}
-use native.Mathlib.Decide.{decLt}
+use Prim.Native.Nat.{ℕ, _+_, _*_, _-_, _≤_, _<_}
 use native.Mathlib.Omega.{arith}
-use mathlib.Core.Bool.{Bool, true, false, cond, not, false≢true}
-use mathlib.Core.List.{List, [], _∷_, _++_, append-assoc}
-use mathlib.Core.Logic.{_⊎_, inl, inr}
+use mathlib.Core.Bool.{Bool, true, false, cond, false≢true}
+use mathlib.Core.List.{List, _++_, append-assoc}
 use mathlib.Core.Path.{_≡_, refl, sym, ap, _∙_}
 use lib.ListN.{length, getD, take, drop, replicate, take-append-drop, List·getD-append}
 use lib.Seq.{length-take-le, getD-take}
-use lib.Dec.{eqb, ltb}
-use borrow.Author.Tests.{ne-eqb, eqb-false, ltb-true, lt-ltb, le-ltb}
+use lib.Dec.{ltb}
+use borrow.Author.Tests.{ne-eqb, eqb-false, ltb-true, lt-ltb}
 use Rattle.placement.specs.AlignmentLaws.{pointRoom}
 use Rattle.placement.specs.Compaction.{Layout, liveCount, compacted}
 use Rattle.placement.specs.CompactionLaws.{CompactionKeeps, compaction-keeps, copy-kept}

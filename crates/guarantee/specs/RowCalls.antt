@@ -1,30 +1,25 @@
 -- Compact, and a refusal for float space, keep the invariant; the live indices' number.
-use Prim.Native.Nat.{ℕ, _+_, _*_, _≤_, _<_}
-use native.Mathlib.Decide.{decLt}
+use Prim.Native.Nat.{ℕ, _*_, _≤_, _<_}
 use native.Mathlib.Omega.{arith}
-use mathlib.Core.Bool.{Bool, true, false, false≢true}
-use mathlib.Core.List.{List}
+use mathlib.Core.Bool.{Bool, true, false}
 use mathlib.Core.Logic.{_⊎_, inl, inr}
 use mathlib.Core.Path.{_≡_, refl, sym, ap, subst, _∙_}
 use lib.ListN.{getD, take}
 use lib.Dec.{ltb}
 use borrow.Author.Tests.{lt-ltb, le-ltb}
-use Rattle.terms.specs.Below.{sumBelow, countBelow, one, fails, sum-same, sum-beyond}
-use Rattle.placement.specs.AlignmentLaws.{pointRoom}
+use Rattle.terms.specs.Below.{countBelow, one, fails, sum-same, sum-beyond}
 use Rattle.placement.specs.Places.{Live}
 use Rattle.labels.specs.Counted.{liveNumber}
 use Rattle.store_definitions.specs.declared.Shape.{Shape}
-use Rattle.store_definitions.specs.declared.Store.{Store}
 use Rattle.store_definitions.specs.Memory.{PointStore}
-use Rattle.store_definitions.specs.Parts.{baseOf, tableLength, pointTable, Rows, rowsOf, withRows}
+use Rattle.store_definitions.specs.Parts.{tableLength, pointTable, Rows, rowsOf, withRows}
 use Rattle.store_definitions.specs.Rows.{compactedRows, roomMade, copyOf}
 use Rattle.store_laws.specs.Sound.{Sound, counted-live}
-use Rattle.guarantee.specs.History.{Given, Life, dead, alive, count, isLive, History}
+use Rattle.guarantee.specs.History.{Given, isLive, History}
 use Rattle.guarantee.specs.LifeLaws.{dead-count}
 use Rattle.guarantee.specs.Guarantee.{liveIndices}
-use Rattle.guarantee.specs.Relates.{Roomy, CopyStands, Relates}
-use Rattle.guarantee.specs.RoomLaws.{copyIn, compact-copy, compact-free, room-copy, room-length}
-use Rattle.guarantee.specs.SpaceLaws.{points-number}
+use Rattle.guarantee.specs.Relates.{CopyStands, Relates}
+use Rattle.guarantee.specs.RoomLaws.{copyIn, compact-copy, room-copy, room-length}
 
 module _ {E : Type 0} (eq : E → E → Bool) (h : Shape) (then : Given E → PointStore E) where
   -- more float space does no harm

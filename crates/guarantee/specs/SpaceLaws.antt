@@ -1,34 +1,30 @@
 -- How many indices are live, and when float space suffices for one point more.
-use Prim.Native.Nat.{ℕ, zero, suc, _+_, _*_, _/_, _≤_, _<_, min, max}
+use Prim.Native.Nat.{ℕ, zero, suc, _+_, _*_, _≤_, _<_}
 use native.Mathlib.Nat.{suc-mul, mul-le-mul-right, le-of-dvd}
 use native.Mathlib.Decide.{decLt, ℕ-discrete}
 use native.Mathlib.Omega.{arith}
-use mathlib.Core.Bool.{Bool, true, false, cond, not, _&&_, false≢true}
+use mathlib.Core.Bool.{Bool, true, false, cond, not, false≢true}
 use mathlib.Core.List.{List, [], _∷_}
-use mathlib.Core.Logic.{_⊎_, inl, inr}
+use mathlib.Core.Logic.{inl, inr}
 use mathlib.Core.Path.{_≡_, refl, sym, ap, subst, _∙_}
 use lib.ListN.{length, getD, take}
 use lib.Seq.{length-take-le, getD-take}
 use lib.Dec.{eqb, ltb}
 use borrow.Author.Tests.{eq-eqb, ne-eqb, lt-ltb, le-ltb}
-use Rattle.terms.specs.Below.{sumBelow, countBelow, one, one-le, sum-same, sum-ones, sum-beyond}
+use Rattle.terms.specs.Below.{sumBelow, countBelow, one, one-le, sum-same, sum-ones}
 use Rattle.terms.specs.Sums.{sum-less}
 use Rattle.placement.specs.AlignmentLaws.{pointRoom}
 use Rattle.placement.specs.Compaction.{liveCount}
-use Rattle.placement.specs.Growth.{grown, grown-within}
+use Rattle.placement.specs.Growth.{grown}
 use Rattle.labels.specs.Counted.{nextIndex, liveNumber}
 use Rattle.labels.specs.CountedLaws.{next-within, next-unused}
-use Rattle.store_definitions.specs.declared.Shape.{Shape}
-use Rattle.store_definitions.specs.declared.Store.{Store}
 use Rattle.store_definitions.specs.Memory.{PointStore}
 use Rattle.store_definitions.specs.Parts.{baseOf, tableLength, pointTable, rowsOf}
 use Rattle.store_definitions.specs.Rows.{compactedRows, roomMade}
 use Rattle.store_definitions.specs.Adding.{tableFull, overflows}
 use Rattle.store_laws.specs.BoundsLaws.{base-divides}
 use Rattle.store_laws.specs.Sound.{Sound}
-use Rattle.guarantee.specs.History.{Given, Life, dead, alive, count, isLive, History}
-use Rattle.guarantee.specs.Guarantee.{liveIndices}
-use Rattle.guarantee.specs.Relates.{Roomy, Relates}
+use Rattle.guarantee.specs.Relates.{Roomy}
 use Rattle.guarantee.specs.RoomLaws.{compact-free, compact-down, short-room}
 
 -- ---- how many indices are live: by the history, by the counts and by the places

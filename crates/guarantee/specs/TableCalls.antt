@@ -1,11 +1,11 @@
 -- A kept add's index: taken from a table, grown or as it was, it keeps the invariant.
-use Prim.Native.Nat.{ℕ, zero, suc, _+_, _*_, _-_, _/_, _≤_, _<_}
+use Prim.Native.Nat.{ℕ, zero, suc, _+_, _*_, _/_, _≤_, _<_}
 use native.Mathlib.Decide.{decLt, ℕ-discrete}
 use native.Mathlib.Omega.{arith}
-use mathlib.Core.Bool.{Bool, true, false, cond}
+use mathlib.Core.Bool.{Bool, true, cond}
 use mathlib.Core.List.{List}
 use mathlib.Core.Logic.{_⊎_, inl, inr}
-use mathlib.Core.Path.{_≡_, refl, sym, ap, subst, _∙_}
+use mathlib.Core.Path.{_≡_, sym, ap, subst, _∙_}
 use lib.ListN.{length, getD, set}
 use lib.Seq.{getD-set-same, getD-set-other}
 use lib.Dec.{eqb}
@@ -22,7 +22,7 @@ use Rattle.store_definitions.specs.Parts.{baseOf, tableLength, withPoints}
 use Rattle.store_definitions.specs.Rows.{copyOf, copySpec}
 use Rattle.store_definitions.specs.Adding.{placed}
 use Rattle.store_laws.specs.Sound.{Sound}
-use Rattle.guarantee.specs.History.{Given, Life, alive, count, isLive, History, gave, changed}
+use Rattle.guarantee.specs.History.{Given, alive, count, isLive, History, gave, changed}
 use Rattle.guarantee.specs.LifeLaws.{dead-count}
 use Rattle.guarantee.specs.Relates.{copyAnswer, CopyStands, Relates}
 use Rattle.guarantee.specs.CopyLaws.{copy-answer}

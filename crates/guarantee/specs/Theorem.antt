@@ -2,23 +2,22 @@
 use Prim.Native.Nat.{ℕ, _+_, _*_, _/_, _≤_, _<_}
 use native.Mathlib.Decide.{decLt}
 use native.Mathlib.Omega.{arith}
-use mathlib.Core.Bool.{Bool, true, false, not, _&&_, false≢true, and-false}
+use mathlib.Core.Bool.{Bool, true, false, and-false}
 use mathlib.Core.List.{List, [], _∷_}
 use mathlib.Core.Path.{_≡_, refl, sym, ap, subst, _∙_}
-use lib.ListN.{length, getD, take}
+use lib.ListN.{length, getD}
 use lib.Seq.{getD-take}
-use lib.Dec.{eqb, ltb}
+use lib.Dec.{ltb}
 use borrow.Author.Tests.{eq-eqb, le-ltb}
 use Rattle.terms.specs.Below.{sumBelow, fails, sum-same, sum-beyond}
 use Rattle.interval_store_manager.specs.Calls.{Decided, go, refuse}
 use Rattle.placement.specs.AlignmentLaws.{pointRoom}
-use Rattle.labels.specs.Counted.{liveNumber}
 use Rattle.store_definitions.specs.declared.Shape.{Shape}
 use Rattle.store_definitions.specs.Memory.{Memory, PointStore}
-use Rattle.store_definitions.specs.Answers.{Answer, is, refused, done, outcome, Output, output}
-use Rattle.store_definitions.specs.Parts.{baseOf, tableLength, pointTable, rowsOf, withRows}
-use Rattle.store_definitions.specs.Opening.{opens, openDecided, opened, openedMemory, openCarriedOut, openSpec}
-use Rattle.store_definitions.specs.Decisions.{formDecided, touchDecided, live, carriedOut}
+use Rattle.store_definitions.specs.Answers.{is, done, outcome, Output, output}
+use Rattle.store_definitions.specs.Parts.{tableLength, rowsOf, withRows}
+use Rattle.store_definitions.specs.Opening.{opens, openDecided, opened, openCarriedOut, openSpec}
+use Rattle.store_definitions.specs.Decisions.{touchDecided, live, carriedOut}
 use Rattle.store_definitions.specs.Counting.{countSpec, liveNumberSpec, freeStartSpec}
 use Rattle.store_definitions.specs.Rows.{copyOf, compactSpec, compactedRows}
 use Rattle.store_definitions.specs.WellFormed.{wellFormed}

@@ -1,17 +1,17 @@
 -- The window after an accepted add: it ends with the points of the last accepted adds.
-use Prim.Native.Nat.{ℕ, zero, suc, _+_, _*_, _-_, _/_, _≤_, _<_}
+use Prim.Native.Nat.{ℕ, zero, suc, _+_, _*_, _-_, _≤_}
 use native.Mathlib.Nat.{suc-mul, mul-le-mul-right, mul-comm, le-of-dvd}
 use native.Mathlib.Omega.{arith}
-use mathlib.Core.Bool.{Bool, true, false, cond}
+use mathlib.Core.Bool.{Bool, true}
 use mathlib.Core.List.{List, [], _∷_, _++_}
-use mathlib.Core.Path.{_≡_, refl, sym, ap, subst, _∙_}
+use mathlib.Core.Path.{_≡_, ap, subst, _∙_}
 use lib.ListN.{length, take, drop, length-drop}
 use lib.Seq.{length-take-le, take-at, drop-length, drop-drop, drop-append-le}
 use Rattle.placement.specs.Pieces.{length-window}
 use Rattle.placement.specs.Row.{movedWindow}
 use Rattle.store_definitions.specs.declared.Shape.{Shape}
 use Rattle.store_definitions.specs.Memory.{PointStore}
-use Rattle.store_definitions.specs.Parts.{baseOf, tableLength}
+use Rattle.store_definitions.specs.Parts.{baseOf}
 use Rattle.store_definitions.specs.Rows.{copyOf}
 use Rattle.store_definitions.specs.Adding.{windowAfter, sequenced}
 use Rattle.store_laws.specs.BoundsLaws.{dims-product, base-divides}

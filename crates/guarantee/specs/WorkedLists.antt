@@ -1,10 +1,9 @@
--- The list guarantee is not empty: document 01's worked windows A to D as lists of calls, what their history says, and what the
--- guarantee then gives. Elements are numbers, compared as such; the memory lent to the opening holds rubbish.
-use Prim.Native.Nat.{ℕ, _+_, _*_, _≤_, _<_}
-use native.Mathlib.Omega.{arith}
+-- Document 01's worked windows A to D as lists of calls, and two smaller lists: what the calls and their answers say, and each
+-- clause of the guarantee computed. Elements are numbers, compared as such; the memory lent to each opening holds rubbish.
+use Prim.Native.Nat.{ℕ, _*_}
 use mathlib.Core.Bool.{Bool, true, false}
 use mathlib.Core.List.{List, [], _∷_}
-use mathlib.Core.Path.{_≡_, refl, ap, _∙_}
+use mathlib.Core.Path.{_≡_, refl}
 use lib.ListN.{take, replicate}
 use lib.Dec.{eqb}
 use Rattle.terms.specs.Below.{everyBelow, sumBelow, countBelow}
@@ -13,7 +12,6 @@ use Rattle.interval_store_manager.specs.Calls.{pushed, changed, taken, released
 use Rattle.interval_store_manager.specs.Intervals.{inside, holders, isFree, inBounds, noneShared}
 use Rattle.interval_store_manager.specs.WellFormed.{capacityAllowed, lentEnough as stackLent, wellFormed as managerWellFormed}
 use Rattle.placement.specs.declared.Laid.the-variants.{Whole}
-use Rattle.placement.specs.Alike.{Alike}
 use Rattle.placement.specs.Alignment.{wrappingSub, wrappingAdd, alignment, zerosBefore}
 use Rattle.placement.specs.AlignmentLaws.{pointRoom}
 use Rattle.placement.specs.Compaction.{holds, liveBelow, moved, grownBlocks, blocks, blockMoves, copiedDown, settled, blockDown, blocksDown, writtenByBlocks, compacted}
@@ -26,7 +24,7 @@ use Rattle.labels.specs.Counted.{countedWell, indexTaken, raised, lowered, live
 use Rattle.labels.specs.Decisions.{none, codeDecided, roomDecided, incDecided, decDecided}
 use Rattle.store_definitions.specs.declared.Shape.{Shape}
 use Rattle.store_definitions.specs.Memory.{Memory, PointStore}
-use Rattle.store_definitions.specs.Answers.{Answer, kept, done, is, refused}
+use Rattle.store_definitions.specs.Answers.{Answer, kept, is, refused}
 use Rattle.store_definitions.specs.Opening.{opens, openDecided, openedMemory, opened, openSpec}
 use Rattle.store_definitions.specs.Counting.{Pairing, incTest, incremented, incSpec, pairDecided, pairDone, adjustFrom, adjustSpec, decTest, placeAfterDec, decremented, decSpec, countSpec, liveNumberSpec, freeStartSpec}
 use Rattle.store_definitions.specs.Rows.{compactedRows, grownRows, short, roomMade, compactSpec, copyOf, copyDecided, copySpec}
@@ -36,12 +34,11 @@ use Rattle.store_definitions.specs.Decisions.{formDecided, live, touchDecided}
 use Rattle.store_definitions.specs.WellFormed.{freeStartWell, placesDistinct, placesEnd, pointsWell, wellFormed}
 use Rattle.guarantee.specs.Calls.{openCall, copyCall, countCall, liveNumberCall, freeStartCall}
 use Rattle.guarantee.specs.Run.{Call, add, inc, dec, adjust, compact, after, answerTo}
-use Rattle.guarantee.specs.History.{Given, Life, dead, alive, History, pairChanges, pairsChanges, joinedPoints, rowOfAdd, changedBy, recorded, history}
-use Rattle.guarantee.specs.Guarantee.{countAnswer, numberIn, liveIndices, Guarantee}
-use Rattle.guarantee.specs.Theorem.{guaranteed}
+use Rattle.guarantee.specs.History.{Given, dead, alive, History, pairChanges, pairsChanges, joinedPoints, rowOfAdd, changedBy, recorded, history}
+use Rattle.guarantee.specs.Guarantee.{numberIn, liveIndices}
 
 -- dimensions 4, shingle size 2, internal shingling, labels off, capacity 10, start 5, no rotation
-abbrev shape : Shape
+abbrev pub shape : Shape
 shape =
     record {
       dimensions = 4;
@@ -54,7 +51,7 @@ shape =
     }
 
 -- memory for a shape without labels
-abbrev rubbish : Shape → Memory ℕ
+abbrev pub rubbish : Shape → Memory ℕ
 rubbish h =
     record {
       store = replicate (h .capacity * h .dimensions) 77;
@@ -74,48 +71,48 @@ rubbish h =
       attributeEnds = [];
     }
 
-fresh : Shape → PointStore ℕ
+pub fresh : Shape → PointStore ℕ
 fresh h = opened 0 h (rubbish h)
 
-opens-fresh : openCall 0 shape (rubbish shape) ≡ opens (fresh shape)
+pub opens-fresh : openCall 0 shape (rubbish shape) ≡ opens (fresh shape)
 unfolding fresh openSpec openDecided boundsHold startAllowed lentEnough
 opens-fresh = refl
 
 -- the lists, the last call first: A, B, C, the two adds that follow, and D
-abbrev listA : List (Call ℕ)
+abbrev pub listA : List (Call ℕ)
 listA = add (1 ∷ 2 ∷ []) 0 ∷ []
 
-abbrev listB : List (Call ℕ)
+abbrev pub listB : List (Call ℕ)
 listB = add (3 ∷ 4 ∷ []) 0 ∷ listA
 
-abbrev listC : List (Call ℕ)
+abbrev pub listC : List (Call ℕ)
 listC = add (5 ∷ 6 ∷ []) 0 ∷ listB
 
-abbrev listFour : List (Call ℕ)
+abbrev pub listFour : List (Call ℕ)
 listFour = add (7 ∷ 8 ∷ []) 0 ∷ listC
 
-abbrev listFive : List (Call ℕ)
+abbrev pub listFive : List (Call ℕ)
 listFive = add (9 ∷ 10 ∷ []) 0 ∷ listFour
 
-abbrev listD : List (Call ℕ)
+abbrev pub listD : List (Call ℕ)
 listD = compact ∷ dec 1 none ∷ dec 0 none ∷ listFive
 
 -- after B: an inc, and an adjust of three pairs: one accepted, one skipped, one refused
-abbrev pair : (insert delete : ℕ) → Pairing
+abbrev pub pair : (insert delete : ℕ) → Pairing
 pair insert delete = record { insertIndex = insert; insertLabel = none; deleteIndex = delete; deleteLabel = none }
 
-abbrev listAdjust : List (Call ℕ)
+abbrev pub listAdjust : List (Call ℕ)
 listAdjust = adjust (pair 0 0 ∷ pair none 0 ∷ pair 0 7 ∷ []) ∷ inc 0 none ∷ listB
 
-abbrev past : List (Call ℕ) → History ℕ
+abbrev pub past : List (Call ℕ) → History ℕ
 past calls = history eqb 0 shape (fresh shape) calls
 
-abbrev store : List (Call ℕ) → PointStore ℕ
+abbrev pub store : List (Call ℕ) → PointStore ℕ
 store calls = after eqb 0 (fresh shape) calls
 
 -- dimensions 2, shingle size 2, capacity 2, start 2: two rows, the second joined, the first gone, and no room for one more
 -- until compaction
-abbrev small : Bool → Shape
+abbrev pub small : Bool → Shape
 small rotation =
     record {
       dimensions = 2;
@@ -127,41 +124,41 @@ small rotation =
       «store_labels» = false;
     }
 
-abbrev listSmall : List (Call ℕ)
+abbrev pub listSmall : List (Call ℕ)
 listSmall = dec 0 none ∷ add (2 ∷ 3 ∷ []) 0 ∷ add (1 ∷ 2 ∷ []) 0 ∷ []
 
-abbrev nines : Bool → Answer
+abbrev pub nines : Bool → Answer
 nines rotation = answerTo eqb 0 (fresh (small rotation)) (add (9 ∷ 9 ∷ []) 0) listSmall
 
-opens-turning : openCall 0 (small true) (rubbish (small true)) ≡ opens (fresh (small true))
+pub opens-turning : openCall 0 (small true) (rubbish (small true)) ≡ opens (fresh (small true))
 unfolding fresh openSpec openDecided boundsHold startAllowed lentEnough
 opens-turning = refl
 
-abbrev gave : List (Call ℕ) → List ℕ → ℕ → Given ℕ
+abbrev pub gave : List (Call ℕ) → List ℕ → ℕ → Given ℕ
 gave calls row place = record { calls = calls; row = row; place = place }
 
 -- the clauses on these lists, computed
-record Computed : Type 0 where
-  a-waits : countCall (store listA) 0 ≡ refused 5
-  a-lives : countCall (store listD) 2 ≡ is 1
-  a-died : countCall (store listD) 0 ≡ refused 5
-  a-adjusted : countCall (store listAdjust) 0 ≡ is 2
+pub record Computed : Type 0 where
+  pub a-waits : countCall (store listA) 0 ≡ refused 5
+  pub a-lives : countCall (store listD) 2 ≡ is 1
+  pub a-died : countCall (store listD) 0 ≡ refused 5
+  pub a-adjusted : countCall (store listAdjust) 0 ≡ is 2
   -- right after the add that gave it, and still after D
-  b-then : copyCall (store listFour) 2 (replicate 4 0) .out ≡ 5 ∷ 6 ∷ 7 ∷ 8 ∷ []
-  b-still : copyCall (store listD) 2 (replicate 4 0) .out ≡ 5 ∷ 6 ∷ 7 ∷ 8 ∷ []
-  c-b : copyCall (store listB) 0 (replicate 4 0) .out ≡ 1 ∷ 2 ∷ 3 ∷ 4 ∷ []
-  c-c : copyCall (store listC) 1 (replicate 4 0) .out ≡ 3 ∷ 4 ∷ 5 ∷ 6 ∷ []
+  pub b-then : copyCall (store listFour) 2 (replicate 4 0) .out ≡ 5 ∷ 6 ∷ 7 ∷ 8 ∷ []
+  pub b-still : copyCall (store listD) 2 (replicate 4 0) .out ≡ 5 ∷ 6 ∷ 7 ∷ 8 ∷ []
+  pub c-b : copyCall (store listB) 0 (replicate 4 0) .out ≡ 1 ∷ 2 ∷ 3 ∷ 4 ∷ []
+  pub c-c : copyCall (store listC) 1 (replicate 4 0) .out ≡ 3 ∷ 4 ∷ 5 ∷ 6 ∷ []
   -- four kept adds less two decs; one kept add, two incs, one dec
-  d-d : sumBelow 10 (λ i. numberIn (countCall (store listD) i)) ≡ 2
-  d-adjusted : sumBelow 10 (λ i. numberIn (countCall (store listAdjust) i)) ≡ 2
-  e-d : take 4 (store listD .memory .location) ≡ 65535 ∷ 65535 ∷ 0 ∷ 1 ∷ []
-  f-d : freeStartCall (store listD) ≡ is 6
+  pub d-d : sumBelow 10 (λ i. numberIn (countCall (store listD) i)) ≡ 2
+  pub d-adjusted : sumBelow 10 (λ i. numberIn (countCall (store listAdjust) i)) ≡ 2
+  pub e-d : take 4 (store listD .memory .location) ≡ 65535 ∷ 65535 ∷ 0 ∷ 1 ∷ []
+  pub f-d : freeStartCall (store listD) ≡ is 6
   -- without rotation compaction makes room; with it none is made, and the bound says so
-  g-small : nines false ≡ kept 0 none (Whole 2)
-  h-small : nines true ≡ refused 10
-  number-d : liveNumberCall (store listD) ≡ is 2
+  pub g-small : nines false ≡ kept 0 none (Whole 2)
+  pub h-small : nines true ≡ refused 10
+  pub number-d : liveNumberCall (store listD) ≡ is 2
 
-computed : Computed
+pub computed : Computed
 unfolding fresh openedMemory opened after history recorded changedBy pairChanges pairsChanges joinedPoints rowOfAdd liveIndices everyBelow sumBelow countBelow allEqual pushed changed taken released inside holders isFree inBounds noneShared capacityAllowed stackLent managerWellFormed wrappingSub wrappingAdd alignment zerosBefore pointRoom holds liveBelow moved grownBlocks blocks blockMoves copiedDown settled blockDown blocksDown writtenByBlocks compacted turn turned copied grown writtenCount laidAs laidElements laidFree placeOf overlaps rowToLay movedWindow countedWell indexTaken lowered liveNumber codeDecided roomDecided incDecided decDecided raised incTest incremented incSpec pairDecided pairDone adjustFrom adjustSpec decTest placeAfterDec decremented decSpec compactedRows grownRows short roomMade compactSpec copyOf pointLength waits tableFull entriesFilled addDecided windowAfter sequenced rowOf labelGiven labelled tableGrown placed joins overflows laidRows laidHow keptAfter indexGiven keeps addSpec boundsHold rotationAllowed lentEnough formDecided live touchDecided freeStartWell placesDistinct placesEnd pointsWell wellFormed liveNumberSpec freeStartSpec countSpec copyDecided copySpec
 computed =
     record {
@@ -183,61 +180,22 @@ computed =
     }
 
 -- what the calls and their answers say
-record Said : Type 0 where
+pub record Said : Type 0 where
   -- A: the add waits
-  a : past listA .life 0 ≡ dead
+  pub a : past listA .life 0 ≡ dead
   -- B: index 0, place 0, the row 1 2 3 4; C: index 1, place 1, the row 3 4 5 6
-  b : past listB .life 0 ≡ alive 0 0 (gave listB (1 ∷ 2 ∷ 3 ∷ 4 ∷ []) 0)
-  c : past listC .life 1 ≡ alive 0 0 (gave listC (3 ∷ 4 ∷ 5 ∷ 6 ∷ []) 1)
+  pub b : past listB .life 0 ≡ alive 0 0 (gave listB (1 ∷ 2 ∷ 3 ∷ 4 ∷ []) 0)
+  pub c : past listC .life 1 ≡ alive 0 0 (gave listC (3 ∷ 4 ∷ 5 ∷ 6 ∷ []) 1)
   -- the accepted pair's inc and dec count, the refused one's not
-  adjusted : past listAdjust .life 0 ≡ alive 2 1 (gave listB (1 ∷ 2 ∷ 3 ∷ 4 ∷ []) 0)
+  pub adjusted : past listAdjust .life 0 ≡ alive 2 1 (gave listB (1 ∷ 2 ∷ 3 ∷ 4 ∷ []) 0)
   -- D: indices 0 and 1 are gone, index 2 is live since the add of 7 8
-  d-gone : past listD .life 0 ≡ dead
-  d-live : past listD .life 2 ≡ alive 0 0 (gave listFour (5 ∷ 6 ∷ 7 ∷ 8 ∷ []) 2)
-  d-adds : past listD .adds ≡ 4
-  d-incs : past listD .incs ≡ 0
-  d-decs : past listD .decs ≡ 2
-  d-number : liveIndices 10 (past listD) ≡ 2
+  pub d-gone : past listD .life 0 ≡ dead
+  pub d-live : past listD .life 2 ≡ alive 0 0 (gave listFour (5 ∷ 6 ∷ 7 ∷ 8 ∷ []) 2)
+  pub d-adds : past listD .adds ≡ 4
+  pub d-incs : past listD .incs ≡ 0
+  pub d-decs : past listD .decs ≡ 2
+  pub d-number : liveIndices 10 (past listD) ≡ 2
 
-said : Said
+pub said : Said
 unfolding fresh openedMemory opened after history recorded changedBy pairChanges pairsChanges joinedPoints rowOfAdd liveIndices everyBelow sumBelow countBelow allEqual pushed changed taken released inside holders isFree inBounds noneShared capacityAllowed stackLent managerWellFormed wrappingSub wrappingAdd alignment zerosBefore pointRoom holds liveBelow moved grownBlocks blocks blockMoves copiedDown settled blockDown blocksDown writtenByBlocks compacted turn turned copied grown writtenCount laidAs laidElements laidFree placeOf overlaps rowToLay movedWindow countedWell indexTaken lowered liveNumber codeDecided roomDecided incDecided decDecided raised incTest incremented incSpec pairDecided pairDone adjustFrom adjustSpec decTest placeAfterDec decremented decSpec compactedRows grownRows short roomMade compactSpec copyOf pointLength waits tableFull entriesFilled addDecided windowAfter sequenced rowOf labelGiven labelled tableGrown placed joins overflows laidRows laidHow keptAfter indexGiven keeps addSpec boundsHold rotationAllowed lentEnough formDecided live touchDecided freeStartWell placesDistinct placesEnd pointsWell wellFormed
 said = record { a = refl; b = refl; c = refl; adjusted = refl; d-gone = refl; d-live = refl; d-adds = refl; d-incs = refl; d-decs = refl; d-number = refl }
-
--- what the guarantee gives of them
-record Gives : Type 0 where
-  a-count : countCall (store listA) 0 ≡ refused 5
-  b-count : countCall (store listB) 0 ≡ is 1
-  c-copy : Alike eqb (copyCall (store listC) 1 (replicate 4 0) .out) (3 ∷ 4 ∷ 5 ∷ 6 ∷ [])
-  adjusted-count : countCall (store listAdjust) 0 ≡ is 2
-  d-refused : countCall (store listD) 0 ≡ refused 5
-  d-count : countCall (store listD) 2 ≡ is 1
-  d-kept : copyCall (store listD) 2 (replicate 4 0) ≡ copyCall (store listFour) 2 (replicate 4 0)
-  d-done : copyCall (store listD) 2 (replicate 4 0) .answer ≡ done
-  d-copy : Alike eqb (copyCall (store listD) 2 (replicate 4 0) .out) (5 ∷ 6 ∷ 7 ∷ 8 ∷ [])
-  d-sum : sumBelow 10 (λ i. numberIn (countCall (store listD) i)) ≡ 2
-  d-room : store listD .header .«start_free_region» ≤ 8
-  d-number : liveNumberCall (store listD) ≡ is 2
-  -- a live point's room of 3 floats, and 2 floats more, pass the store length
-  h-bound : after eqb 0 (fresh (small true)) listSmall .header .«store_length» < liveIndices 2 (history eqb 0 (small true) (fresh (small true)) listSmall) * 3 + 2
-
-abbrev holding : (calls : List (Call ℕ)) → Guarantee eqb 0 shape (fresh shape) calls
-holding calls = guaranteed eqb 0 shape (fresh shape) (rubbish shape) opens-fresh calls
-
-gives : Gives
-unfolding turn turned pointRoom
-gives =
-    record {
-      a-count = holding listA .counts 0 ∙ ap countAnswer (said .a);
-      b-count = holding listB .counts 0 ∙ ap countAnswer (said .b);
-      c-copy = holding listC .copies-row 1 (gave listC (3 ∷ 4 ∷ 5 ∷ 6 ∷ []) 1) (0, 0, said .c) (replicate 4 0) refl .1;
-      adjusted-count = holding listAdjust .counts 0 ∙ ap countAnswer (said .adjusted);
-      d-refused = holding listD .counts 0 ∙ ap countAnswer (said .d-gone);
-      d-count = holding listD .counts 2 ∙ ap countAnswer (said .d-live);
-      d-kept = holding listD .copies-kept 2 (gave listFour (5 ∷ 6 ∷ 7 ∷ 8 ∷ []) 2) (0, 0, said .d-live) (replicate 4 0);
-      d-done = holding listD .copies-row 2 (gave listFour (5 ∷ 6 ∷ 7 ∷ 8 ∷ []) 2) (0, 0, said .d-live) (replicate 4 0) refl .0;
-      d-copy = holding listD .copies-row 2 (gave listFour (5 ∷ 6 ∷ 7 ∷ 8 ∷ []) 2) (0, 0, said .d-live) (replicate 4 0) refl .1;
-      d-sum = omega (arith, holding listD .sum, said .d-adds, said .d-incs, said .d-decs);
-      d-room = rw (said .d-number) at (holding listD .compact-room (dec 1 none ∷ dec 0 none ∷ listFive) refl);
-      d-number = holding listD .live-number ∙ ap is (said .d-number);
-      h-bound = guaranteed eqb 0 (small true) (fresh (small true)) (rubbish (small true)) opens-turning (add (9 ∷ 9 ∷ []) 0 ∷ listSmall) .float-space .0 (computed .h-small) .1;
-    }
