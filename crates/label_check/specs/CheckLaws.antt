@@ -1,18 +1,17 @@
 -- Laws of the check's two passes: the sums that the labels leave, and the classes that the slots leave seen.
-use Prim.Native.Nat.{ℕ, zero, suc, _+_, _*_, _≤_, _<_, _^_}
+use Prim.Native.Nat.{ℕ, suc, _+_, _≤_, _<_, _^_}
 use native.Mathlib.Omega.{arith}
 use native.Mathlib.Numerals.{add-one}
 use native.Mathlib.Decide.{decLt, ℕ-discrete}
 use mathlib.Core.List.{List}
 use mathlib.Core.Bool.{Bool, true, false, cond, _&&_, _||_, and-true, or-true}
 use mathlib.Core.Path.{_≡_, refl, sym, _∙_, ap}
-use mathlib.Core.Logic.{⊎-elim}
 use lib.ListN.{length, getD, set}
-use lib.Dec.{leb, ltb, eqb}
-use borrow.Author.Tests.{eq-eqb, ne-eqb, lt-ltb, le-ltb, ltb-true, ltb-false, eqb-true}
+use lib.Dec.{ltb, eqb}
+use borrow.Author.Tests.{eq-eqb, ne-eqb, lt-ltb, le-ltb, ltb-true, eqb-true}
 use Rattle.terms.specs.Below.{one, both, and-make, fails, positive, everyBelow, every-at, every-make, sumBelow}
 use Rattle.terms.specs.Sums.{sum-most}
-use Rattle.terms.specs.Search.{firstBelow, First, first}
+use Rattle.terms.specs.Search.{firstBelow, first}
 use Rattle.labels.specs.Labels.{holdsClass, slotSum, labelStands, differ}
 use Rattle.labels.specs.CountedLaws.{stored}
 use Rattle.labels.specs.Sound.{differ-no, differ-yes}

@@ -1,21 +1,19 @@
 -- What the check in one linear pass asks of each label and of each slot, given marks of the free indices and the sums of
 -- the slots' counts, and that all of it together is well-formedness.
-use Prim.Native.Nat.{ℕ, _+_, _≤_, _<_}
+use Prim.Native.Nat.{ℕ, _≤_, _<_}
 use native.Mathlib.Omega.{arith}
-use native.Mathlib.Decide.{decLt}
 use mathlib.Core.List.{List}
 use mathlib.Core.Bool.{Bool, true, false, cond, _&&_}
 use mathlib.Core.Path.{_≡_, refl, sym, _∙_, ap}
 use lib.ListN.{length, getD}
 use lib.Dec.{leb, ltb, eqb}
-use borrow.Author.Tests.{eq-eqb, eqb-true, le-leb, leb-true, lt-ltb, ltb-true}
+use borrow.Author.Tests.{eq-eqb, eqb-true, leb-true, lt-ltb, ltb-true}
 use Rattle.terms.specs.Below.{one, both, and-make, everyBelow, every-at, every-make}
 use Rattle.interval_store_manager.specs.WellFormed.{wellFormed}
 use Rattle.interval_store_manager.specs.Marks.{Marks}
-use Rattle.labels.specs.Counted.{Counted, countAt, free, countedWell}
-use Rattle.labels.specs.CountedLaws.{WellCounted}
+use Rattle.labels.specs.Counted.{Counted, countAt, free}
 use Rattle.labels.specs.Labels.{Labels, labelCountAt, slotCountAt, slotSum, labelStands, differ, labelsWell}
-use Rattle.labels.specs.Sound.{Stands, Sound, label-stands, label-stands-make, asked, asked-make, distinct-from, distinct-make, sound-make}
+use Rattle.labels.specs.Sound.{Sound, label-stands, label-stands-make, asked, asked-make, distinct-from, distinct-make, sound-make}
 
 -- index i is marked exactly where its count is 0
 abbrev pub markFits : List ℕ → List ℕ → ℕ → Bool

@@ -7,13 +7,12 @@ use mathlib.Core.Path.{_≡_, refl, sym, _∙_, ap}
 use lib.ListN.{getD}
 use borrow.Author.Tests.{lt-ltb}
 use Rattle.labels.specs.Classes.{classOf}
-use Rattle.labels.specs.Counted.{nextIndex}
-use Rattle.labels.specs.Labels.{Labels, codeAt, slotAt, classAt, labelCountAt, labelRaised, labelLowered, labelTaken}
+use Rattle.labels.specs.Labels.{Labels, codeAt, labelCountAt, labelRaised, labelLowered, labelTaken}
 use Rattle.labels.specs.Sound.{Sound}
 use Rattle.labels.specs.Decisions.{inUse}
 use Rattle.labels.specs.Readings.{Answer, holds, labelSpec, attributeSpec}
 use Rattle.labels.specs.CountLaws.{inc-keeps, dec-keeps}
-use Rattle.labels.specs.TakeLaws.{label-keeps, code-kept, code-given}
+use Rattle.labels.specs.TakeLaws.{label-keeps, code-kept}
 
 -- what the readings label and attribute answer
 abbrev pub codeAnswer : ℕ → Labels → ℕ → Answer

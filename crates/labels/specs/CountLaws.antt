@@ -3,16 +3,14 @@ use Prim.Native.Nat.{ℕ, _+_, _-_, _≤_, _<_}
 use native.Mathlib.Omega.{arith}
 use native.Mathlib.Decide.{ℕ-discrete}
 use mathlib.Core.List.{List}
-use mathlib.Core.Bool.{Bool, true, false, cond}
-use mathlib.Core.Path.{_≡_, refl, sym, _∙_, ap}
-use lib.ListN.{length, getD, set}
+use mathlib.Core.Path.{_≡_, refl, sym}
+use lib.ListN.{set}
 use lib.Seq.{getD-set-same, getD-set-other}
-use lib.Dec.{eqb}
 use borrow.Author.Tests.{eq-eqb, ne-eqb}
 use Rattle.labels.specs.Counted.{Counted, countAt, raised, lowered}
 use Rattle.labels.specs.CountedLaws.{WellCounted, stored, raise-keeps, lower-keeps, lowered-counts}
 use Rattle.labels.specs.Labels.{Labels, slotAt, labelCountAt, slotCountAt, withTables, labelRaised, labelLowered, slotSum}
-use Rattle.labels.specs.Sound.{Stands, Distinct, Sound}
+use Rattle.labels.specs.Sound.{Sound}
 use Rattle.labels.specs.SlotLaws.{sum-counted, slot-counts}
 
 module _ (classes : List ℕ) (c : ℕ) (l : Labels) (w : Sound classes c l) (i : ℕ) (m : i < c) (u : 0 < labelCountAt l i) where

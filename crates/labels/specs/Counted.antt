@@ -9,7 +9,6 @@ use Rattle.terms.specs.Below.{everyBelow, countBelow}
 use Rattle.interval_store_manager.specs.declared.IntervalStoreManager.{IntervalStoreManager}
 use Rattle.interval_store_manager.specs.Intervals.{isFree}
 use Rattle.interval_store_manager.specs.WellFormed.{wellFormed}
-use Rattle.interval_store_manager.specs.Answers.{Outcome}
 use Rattle.interval_store_manager.specs.Calls.{taken, released}
 use Rattle.interval_store_manager.specs.GetLaws.{next}
 

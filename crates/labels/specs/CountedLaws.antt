@@ -4,17 +4,16 @@ use Prim.Native.Nat.{ℕ, _+_, _-_, _≤_, _<_}
 use native.Mathlib.Omega.{arith}
 use native.Mathlib.Decide.{decLt, ℕ-discrete}
 use mathlib.Core.List.{List}
-use mathlib.Core.Bool.{Bool, true, false, cond, not, _&&_, _||_, Bool·beq, and-true, and-false, or-true, or-false}
+use mathlib.Core.Bool.{Bool, true, false, not, _&&_, _||_, Bool·beq, and-true, and-false, or-true, or-false}
 use mathlib.Core.Path.{_≡_, refl, sym, _∙_, ap}
 use lib.ListN.{length, getD, set, length-set}
 use lib.Seq.{getD-set-same, getD-set-other}
-use lib.Dec.{leb, ltb, eqb}
-use borrow.Author.Tests.{eq-eqb, ne-eqb, eqb-true, eqb-false, le-leb, leb-true}
-use Rattle.terms.specs.Below.{both, and-make, everyBelow, every-at, every-make}
+use lib.Dec.{eqb}
+use borrow.Author.Tests.{eq-eqb, ne-eqb, eqb-true, le-leb, leb-true}
+use Rattle.terms.specs.Below.{both, and-make, every-at, every-make}
 use Rattle.interval_store_manager.specs.declared.IntervalStoreManager.{IntervalStoreManager}
-use Rattle.interval_store_manager.specs.Intervals.{isFree}
 use Rattle.interval_store_manager.specs.WellFormed.{wellFormed}
-use Rattle.interval_store_manager.specs.Sound.{Sound, sound}
+use Rattle.interval_store_manager.specs.Sound.{sound}
 use Rattle.interval_store_manager.specs.Answers.{Outcome, outcome, given, done}
 use Rattle.interval_store_manager.specs.Calls.{taken, released}
 use Rattle.interval_store_manager.specs.GetLaws.{next, next-below, get-keeps, get-free, get-was-free, took}
@@ -74,9 +73,6 @@ stored P xs i v k h same other =
 module _ (c : ℕ) (t : Counted) (w : WellCounted c t) where
   abbrev m : IntervalStoreManager
   m = t .manager
-
-  pub capacity-least : 1 ≤ c
-  capacity-least = omega (arith, w .whole, sound m (t .starts) (t .ends) (w .managed) .least)
 
   pub capacity-most : c ≤ 1024
   capacity-most = omega (arith, w .whole, sound m (t .starts) (t .ends) (w .managed) .most)

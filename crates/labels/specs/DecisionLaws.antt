@@ -3,14 +3,14 @@ use Prim.Native.Nat.{ℕ, _≤_, _<_}
 use native.Mathlib.Omega.{arith}
 use native.Mathlib.Decide.{decLt}
 use mathlib.Core.List.{List}
-use mathlib.Core.Bool.{Bool, true, false, cond, _&&_}
+use mathlib.Core.Bool.{Bool, true, false, cond}
 use mathlib.Core.Path.{_≡_, refl, sym, _∙_}
 use lib.ListN.{getD}
 use lib.Dec.{ltb, eqb}
-use borrow.Author.Tests.{ltb-true, ltb-false, eqb-false, eqb-true, lt-ltb, le-ltb, eq-eqb, ne-eqb}
-use Rattle.terms.specs.Below.{both, positive, fails, everyBelow, every-at, every-make}
+use borrow.Author.Tests.{ltb-true, eqb-false, lt-ltb, eq-eqb, ne-eqb}
+use Rattle.terms.specs.Below.{both, fails, everyBelow, every-at, every-make}
 use Rattle.interval_store_manager.specs.declared.IntervalStoreManager.{IntervalStoreManager}
-use Rattle.interval_store_manager.specs.Calls.{Decided, go, refuse}
+use Rattle.interval_store_manager.specs.Calls.{go, refuse}
 use Rattle.labels.specs.Counted.{Counted, countAt, nextIndex}
 use Rattle.labels.specs.CountedLaws.{WellCounted, unused-stacked, next-within, next-unused}
 use Rattle.labels.specs.Decisions.{inUse, codeDecided, roomDecided, incDecided, decDecided}
@@ -45,12 +45,13 @@ tested true true e = no-go e
 tested true false e = (refl, refl)
 tested false b e = no-go e
 
-pub inc-go : (c : ℕ) (counts : List ℕ) (i : ℕ) → incDecided true c counts i ≡ go → (i < c) × ((0 < getD counts i 0) × (getD counts i 0 ≡ 65535 → ⊥))
+pub inc-go : (c : ℕ) (counts : List ℕ) (i : ℕ) → incDecided true c counts i ≡ go → getD counts i 0 ≤ 65535 → (i < c) × ((0 < getD counts i 0) × (getD counts i 0 < 65535))
 unfolding incDecided
-inc-go c counts i e =
+inc-go c counts i e h =
     let p = tested (inUse true c counts i) (eqb (getD counts i 0) 65535) e in
     let q = in-use c counts i (p .0) in
-    (q .0, (q .1, eqb-false (getD counts i 0) 65535 (p .1)))
+    let d = eqb-false (getD counts i 0) 65535 (p .1) in
+    (q .0, (q .1, elim (decLt (getD counts i 0) 65535) [ yes l ↦ l | no g ↦ absurd (d (omega arith)) ]))
 
 used : (a : Bool) → cond a go (refuse 6) ≡ go → a ≡ true
 used true e = refl

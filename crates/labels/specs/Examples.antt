@@ -4,14 +4,14 @@ use Prim.Native.Nat.{ℕ}
 use mathlib.Core.List.{List, [], _∷_}
 use mathlib.Core.Bool.{true, false}
 use mathlib.Core.Path.{_≡_, refl}
-use Rattle.terms.specs.Below.{everyBelow, sumBelow, countBelow}
+use Rattle.terms.specs.Below.{everyBelow, sumBelow}
 use Rattle.terms.specs.Search.{firstBelow}
 use Rattle.interval_store_manager.specs.Intervals.{inside, holders, isFree, inBounds, noneShared}
 use Rattle.interval_store_manager.specs.WellFormed.{capacityAllowed, lentEnough, wellFormed}
-use Rattle.interval_store_manager.specs.Calls.{manager, pushed, taken, released}
+use Rattle.interval_store_manager.specs.Calls.{manager, taken, released}
 use Rattle.labels.specs.Classes.{reasonClasses}
 use Rattle.labels.specs.Counted.{counted, countedWell, indexTaken, raised, lowered}
-use Rattle.labels.specs.Labels.{Labels, LabelTaken, holdsClass, classSlot, slotTaken, labelTaken, labelRaised, labelLowered, slotSum, labelStands, differ, labelsWell}
+use Rattle.labels.specs.Labels.{Labels, LabelTaken, holdsClass, classSlot, slotTaken, labelTaken, labelLowered, slotSum, labelStands, differ, labelsWell}
 use Rattle.labels.specs.Opening.{labelsOpened}
 use Rattle.labels.specs.AnswerLaws.{codeAnswer, classAnswer}
 use Rattle.labels.specs.Decisions.{inUse}

@@ -2,7 +2,6 @@
 -- take, inc and dec ask of their part.
 use Prim.Native.Nat.{ℕ, _≤_, _<_}
 use mathlib.Core.List.{List}
-use mathlib.Core.Path.{_≡_}
 use lib.ListN.{length}
 use denote.Ref.{RefT}
 use denote.Triple.Both.{Both}

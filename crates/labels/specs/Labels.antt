@@ -1,5 +1,5 @@
 -- Document 01: the label half of a store, what an add, an inc and a dec do to it, and when it is well-formed.
-use Prim.Native.Nat.{ℕ, _+_}
+use Prim.Native.Nat.{ℕ}
 use mathlib.Core.List.{List}
 use mathlib.Core.Bool.{Bool, true, cond, not, _&&_}
 use lib.ListN.{length, getD, set}

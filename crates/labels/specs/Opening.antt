@@ -9,7 +9,7 @@ use borrow.Author.Tests.{eq-eqb}
 use Rattle.terms.specs.Below.{sum-same, sum-zeros}
 use Rattle.interval_store_manager.specs.Calls.{manager}
 use Rattle.interval_store_manager.specs.ChangeLaws.{new-well-formed, new-free}
-use Rattle.labels.specs.Counted.{Counted, counted, countAt}
+use Rattle.labels.specs.Counted.{Counted, counted}
 use Rattle.labels.specs.CountedLaws.{WellCounted}
 use Rattle.labels.specs.Labels.{Labels, labelCountAt, slotCountAt, slotSum}
 use Rattle.labels.specs.Sound.{Sound}
@@ -34,13 +34,20 @@ labelsOpened capacity l =
       attributeTable = tableOpened capacity (l .attributeTable);
     }
 
+-- a manager may be opened: the capacity is allowed, and both lists have an entry for each index
+pub record Openable (capacity : ℕ) (starts ends : List ℕ) : Type 0 where
+  pub least : 0 < capacity
+  pub most : capacity ≤ 1024
+  pub starts-lent : capacity ≤ length starts
+  pub ends-lent : capacity ≤ length ends
+
 -- every lent list has an entry for each index
 pub record Lent (capacity : ℕ) (t : Counted) : Type 0 where
   pub counts : capacity ≤ length (t .counts)
   pub starts : capacity ≤ length (t .starts)
   pub ends : capacity ≤ length (t .ends)
 
-cleared-length : (n : ℕ) (xs : List ℕ) → n ≤ length xs → length (cleared n xs) ≡ length xs
+pub cleared-length : (n : ℕ) (xs : List ℕ) → n ≤ length xs → length (cleared n xs) ≡ length xs
 cleared-length n xs h = simp (length-append, length-replicate, length-drop) (omega arith)
 
 cleared-at : (n : ℕ) (xs : List ℕ) (i : ℕ) → i < n → getD (cleared n xs) i 0 ≡ 0

@@ -4,11 +4,10 @@ use native.Mathlib.Omega.{arith}
 use native.Mathlib.Numerals.{add-one}
 use mathlib.Core.List.{List, [], _∷_, _++_, append-nil}
 use mathlib.Core.Bool.{Bool, true, false}
-use mathlib.Core.Path.{_≡_, refl, sym, _∙_, ap}
+use mathlib.Core.Path.{_≡_, refl, _∙_, ap}
 use lib.ListN.{length, getD, set, drop, replicate, length-append, length-replicate, length-drop}
 use lib.Seq.{drop-length}
 use lib.Ieee.{Float}
-use lib.Dec.{eqb}
 use borrow.Author.Tests.{eq-eqb, ne-eqb}
 use Rattle.labels.specs.Decisions.{inUse}
 use Rattle.labels.specs.Readings.{written, refused, zeroFloat, oneFloat, oneHot, vectorOutcome, attributeVecSpec}

@@ -1,13 +1,13 @@
 -- The label half's well-formedness as a record of named facts, for every class table and capacity.
-use Prim.Native.Nat.{ℕ, _+_, _-_, _≤_, _<_}
+use Prim.Native.Nat.{ℕ, _≤_, _<_}
 use native.Mathlib.Omega.{arith}
 use native.Mathlib.Decide.{decLt}
 use mathlib.Core.List.{List}
 use mathlib.Core.Bool.{Bool, true, false, cond, not, _&&_}
-use mathlib.Core.Path.{_≡_, refl, sym, _∙_, ap}
+use mathlib.Core.Path.{_≡_, refl, sym, _∙_}
 use lib.ListN.{length, getD}
 use lib.Dec.{leb, ltb, eqb}
-use borrow.Author.Tests.{eq-eqb, eqb-true, le-leb, leb-true, lt-ltb, ltb-true, le-ltb, not-true, not-false}
+use borrow.Author.Tests.{eq-eqb, eqb-true, le-leb, leb-true, lt-ltb, ltb-true}
 use Rattle.terms.specs.Below.{both, and-make, everyBelow, every-at, every-make}
 use Rattle.labels.specs.Classes.{classOf}
 use Rattle.labels.specs.CountedLaws.{WellCounted, well-counted, well-counted-make}

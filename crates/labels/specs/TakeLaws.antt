@@ -1,21 +1,19 @@
 -- Laws of taking a label: the label half stays well-formed, and every live label keeps its code and its slot.
-use Prim.Native.Nat.{ℕ, _+_, _≤_, _<_}
+use Prim.Native.Nat.{ℕ, _≤_, _<_}
 use native.Mathlib.Omega.{arith}
 use native.Mathlib.Decide.{ℕ-discrete}
 use mathlib.Core.List.{List}
-use mathlib.Core.Path.{_≡_, refl, sym, _∙_, ap}
-use lib.ListN.{length, getD, set, length-set}
+use mathlib.Core.Path.{_≡_, _∙_, ap}
+use lib.ListN.{getD, set, length-set}
 use lib.Seq.{getD-set-same, getD-set-other}
-use lib.Dec.{eqb}
-use Rattle.terms.specs.Below.{one}
 use Rattle.labels.specs.Classes.{classOf}
 use Rattle.interval_store_manager.specs.declared.IntervalStoreManager.{IntervalStoreManager}
 use Rattle.interval_store_manager.specs.Answers.{outcome, given}
 use Rattle.interval_store_manager.specs.Calls.{taken}
 use Rattle.labels.specs.Counted.{Counted, counted, countAt, nextIndex, indexTaken}
-use Rattle.labels.specs.CountedLaws.{WellCounted, stored, take-keeps, next-within, next-unused, index-given, index-taken}
-use Rattle.labels.specs.Labels.{Labels, codeAt, slotAt, classAt, labelCountAt, slotCountAt, SlotTaken, slotTaken, LabelTaken, labelled, labelTaken, slotSum}
-use Rattle.labels.specs.Sound.{Stands, Distinct, Sound}
+use Rattle.labels.specs.CountedLaws.{stored, take-keeps, next-within, next-unused, index-given, index-taken}
+use Rattle.labels.specs.Labels.{Labels, codeAt, slotAt, labelCountAt, slotCountAt, SlotTaken, slotTaken, labelled, labelTaken, slotSum}
+use Rattle.labels.specs.Sound.{Stands, Sound}
 use Rattle.labels.specs.SlotLaws.{sum-labelled, slot-counts, slot-free}
 use Rattle.labels.specs.TakeSlotLaws.{Took, slot-took}
 

@@ -1,155 +1,38 @@
 -- An add keeps a store well-formed: kept, waiting or refused.
-use Prim.Native.Nat.{ℕ, _+_, _-_, _≤_, _<_}
+use Prim.Native.Nat.{ℕ, _≤_, _<_}
 use native.Mathlib.Decide.{ℕ-discrete}
-use native.Mathlib.Nat.{le-of-dvd}
 use native.Mathlib.Omega.{arith}
-use mathlib.Core.Bool.{Bool, true, false, cond, not, _&&_}
-use mathlib.Core.List.{List, _++_}
-use mathlib.Core.Path.{_≡_, refl, sym, _∙_, ap}
-use lib.ListN.{length, getD, take, drop, set, length-append, length-drop, length-set}
-use lib.Seq.{length-take-le, take-at, getD-set-same, getD-set-other}
-use lib.Dec.{ltb, eqb}
-use borrow.Author.Tests.{eq-eqb, ne-eqb, eqb-true, eqb-false, ltb-false, not-false}
+use mathlib.Core.Bool.{Bool, true, false}
+use mathlib.Core.List.{List}
+use mathlib.Core.Path.{_≡_, refl, sym, _∙_}
+use lib.ListN.{length, getD, set}
+use lib.Seq.{getD-set-same, getD-set-other}
+use lib.Dec.{eqb}
+use borrow.Author.Tests.{eq-eqb, ne-eqb, eqb-true, eqb-false}
 use Rattle.terms.specs.Below.{positive}
-use Rattle.interval_store_manager.specs.Calls.{Decided, go, refuse, changed}
+use Rattle.interval_store_manager.specs.Calls.{changed}
 use Rattle.placement.specs.Growth.{grown, grown-within}
 use Rattle.placement.specs.Laying.{placeOf}
-use Rattle.placement.specs.Row.{rowToLay, movedWindow}
-use Rattle.labels.specs.Counted.{Counted, counted, countAt, nextIndex, indexTaken}
-use Rattle.labels.specs.CountedLaws.{stored, next-within, take-keeps}
-use Rattle.labels.specs.Decisions.{codeDecided, roomDecided}
+use Rattle.labels.specs.Counted.{Counted, counted, nextIndex, indexTaken}
+use Rattle.labels.specs.CountedLaws.{next-within, take-keeps}
 use Rattle.labels.specs.Labels.{Labels, labelTaken}
 use Rattle.labels.specs.TakeLaws.{label-keeps}
 use Rattle.store_definitions.specs.declared.Store.{Store}
 use Rattle.store_definitions.specs.Memory.{PointStore}
-use Rattle.store_definitions.specs.Answers.{kept, waiting, refused, Outcome, outcome}
-use Rattle.store_definitions.specs.Parts.{baseOf, tableLength, pointTable, labelHalf, Rows, rowsOf, withRows, withPoints, withLabels, withWindow}
-use Rattle.store_definitions.specs.Decisions.{andThen, refuseIf, formDecided}
+use Rattle.store_definitions.specs.Answers.{kept, refused, outcome}
+use Rattle.store_definitions.specs.Parts.{baseOf, tableLength, pointTable, labelHalf, Rows, rowsOf, withRows, withPoints, withLabels}
 use Rattle.store_definitions.specs.Rows.{roomMade}
-use Rattle.store_definitions.specs.Adding.{pointLength, waits, tableFull, entriesFilled, AddDecided, keep, wait, refuseAdd, thenAdd, addDecided, windowAfter, sequenced, rowOf, labelGiven, labelled, tableGrown, placed, overflows, laidRows, laidHow, keptAfter, indexGiven, keeps, addCarriedOut, addSpec}
+use Rattle.store_definitions.specs.Adding.{pointLength, tableFull, entriesFilled, AddDecided, keep, wait, refuseAdd, addDecided, sequenced, rowOf, labelGiven, labelled, tableGrown, placed, overflows, laidRows, laidHow, keptAfter, indexGiven, keeps, addCarriedOut, addSpec}
 use Rattle.store_definitions.specs.WellFormed.{classTable, wellFormed}
-use Rattle.store_laws.specs.BoundsLaws.{base-divides}
 use Rattle.store_laws.specs.Sound.{RowsSound, Sound, sound, sound-make}
-use Rattle.store_laws.specs.RowsLaws.{SameEmpty, RowsOf, with-rows, room-sound, room-empty}
-use Rattle.store_laws.specs.Lengths.{by-cases, SameLengths, index-taken-lengths}
-use Rattle.store_laws.specs.PointsLaws.{withPlaces, rows-fewer, with-points, with-labels, with-window}
+use Rattle.store_laws.specs.RowsLaws.{RowsOf, with-rows, room-sound, room-empty}
+use Rattle.store_laws.specs.Cases.{by-cases}
+use Rattle.store_laws.specs.Lengths.{index-taken-lengths}
+use Rattle.store_laws.specs.PointsLaws.{withPlaces, rows-fewer, with-points, with-labels}
 use Rattle.store_laws.specs.TableLaws.{Ready, as-it-is, grown-ready}
 use Rattle.store_laws.specs.LaidLaws.{laid-sound, laid-place, laid-placed}
-use Rattle.store_laws.specs.DecisionLaws.{no-go, both-go, not-refused}
-
--- what an accepted add may rely on
-pub record Accepted {E : Type 0} (p : PointStore E) (point : List E) (code : ℕ) : Type 0 where
-  pub sized : length point ≡ pointLength (p .header)
-  pub coded : p .header .«store_labels» ≡ true → code ≤ 23
-
--- and a kept one
-pub record Kept {E : Type 0} (p : PointStore E) (point : List E) (code : ℕ) : Type 0 where
-  pub accepted : Accepted p point code
-  pub label-free : p .header .«store_labels» ≡ true → 0 < p .header .«label_manager» .last_in_use
-  pub not-full : tableFull (p .header) ≡ false
-
-then-keep : (d : Decided) (a : AddDecided) → thenAdd d a ≡ keep → (d ≡ go) × (a ≡ keep)
-then-keep go a e = (refl, e)
-then-keep (refuse n) a e = absurd (let z : _≡_ {A = ℕ} 0 1 = cc in omega arith)
-
-then-wait : (d : Decided) (a : AddDecided) → thenAdd d a ≡ wait → d ≡ go
-then-wait go a e = refl
-then-wait (refuse n) a e = absurd (let z : _≡_ {A = ℕ} 0 1 = cc in omega arith)
-
-kept-go : (b : Bool) (d : Decided) → cond b wait (thenAdd d keep) ≡ keep → d ≡ go
-kept-go true d e = absurd (let z : _≡_ {A = ℕ} 0 1 = cc in omega arith)
-kept-go false d e = then-keep d keep e .0
-
-code-go : (on : Bool) (code : ℕ) → codeDecided on code ≡ go → on ≡ true → code ≤ 23
-unfolding codeDecided
-code-go true code e h = ltb-false 23 code (not-refused (ltb 23 code) 4 e)
-code-go false code e h = absurd (let z : _≡_ {A = ℕ} 0 1 = cc in omega arith)
-
-module _ {E : Type 0} (p : PointStore E) (point : List E) (code : ℕ) where
-  abbrev s : Store
-  s = p .header
-
-  abbrev asked : Decided
-  asked =
-      andThen (formDecided p)
-      (andThen (refuseIf (not (eqb (length point) (pointLength s))) 3)
-      (andThen (refuseIf (eqb (s .«next_sequence_index») 4294967295) 12) (codeDecided (s .«store_labels») code)))
-
-  accepts : asked ≡ go → Accepted p point code
-  accepts e =
-      let a = both-go (formDecided p) _ e in
-      let b = both-go (refuseIf (not (eqb (length point) (pointLength s))) 3) _ (a .1) in
-      let c = both-go (refuseIf (eqb (s .«next_sequence_index») 4294967295) 12) (codeDecided (s .«store_labels») code) (b .1) in
-      record {
-        sized = eqb-true (length point) (pointLength s) (not-false (eqb (length point) (pointLength s)) (not-refused _ 3 (b .0)));
-        coded = code-go (s .«store_labels») code (c .1);
-      }
-
-  room-go : (on : Bool) → roomDecided on (s .«label_manager») ≡ go → on ≡ true → 0 < s .«label_manager» .last_in_use
-  unfolding roomDecided
-  room-go true e h = positive (s .«label_manager» .last_in_use) (eqb-false (s .«label_manager» .last_in_use) 0 (not-refused _ 8 e))
-  room-go false e h = absurd (let z : _≡_ {A = ℕ} 0 1 = cc in omega arith)
-
-  pub waits-on : addDecided p point code ≡ wait → Accepted p point code
-  unfolding addDecided
-  waits-on e = accepts (then-wait asked _ e)
-
-  pub keeps-on : addDecided p point code ≡ keep → Kept p point code
-  unfolding addDecided
-  keeps-on e =
-      let a = then-keep asked _ e in
-      let b = both-go (roomDecided (s .«store_labels») (s .«label_manager»)) (refuseIf (tableFull s) 9) (kept-go (waits s) _ (a .1)) in
-      record {
-        accepted = accepts (a .0);
-        label-free = room-go (s .«store_labels») (b .0);
-        not-full = not-refused (tableFull s) 9 (b .1);
-      }
-
--- the window and the row
-length-on : (s : Store) → s .«internal_shingling» ≡ true → pointLength s ≡ baseOf s
-unfolding pointLength
-length-on s e = ap (λ (b : Bool). cond b (baseOf s) (s .dimensions)) e
-
-length-off : (s : Store) → s .«internal_shingling» ≡ false → pointLength s ≡ s .dimensions
-unfolding pointLength
-length-off s e = ap (λ (b : Bool). cond b (baseOf s) (s .dimensions)) e
-
-module _ {E : Type 0} (p : PointStore E) (point : List E) (w : Sound p) (sized : length point ≡ pointLength (p .header)) where
-  abbrev dims : ℕ
-  dims = p .header .dimensions
-
-  abbrev base : ℕ
-  base = baseOf (p .header)
-
-  abbrev window : List E
-  window = p .memory .lastKnownShingle
-
-  abbrev moved : List E
-  moved = movedWindow base (take dims window) point
-
-  moved-length : p .header .«internal_shingling» ≡ true → length moved ≡ dims
-  unfolding movedWindow
-  moved-length on =
-      rw (length-append (drop base (take dims window)) point, length-drop base (take dims window), length-take-le dims window (w .lent .window-lent))
-      (omega (arith, sized, length-on (p .header) on, le-of-dvd (w .bounds .dims-least) (base-divides dims (p .header .«shingle_size») (p .header .capacity) (w .bounds))))
-
-  window-length : dims ≤ length (windowAfter p point)
-  unfolding windowAfter
-  window-length =
-      by-cases (λ x. dims ≤ length x) (p .header .«internal_shingling») (moved ++ drop dims window) window
-      (λ on. rw (length-append moved (drop dims window)) (omega (arith, moved-length on)))
-      (λ off. w .lent .window-lent)
-
-  pub row-length : length (rowOf p point) ≡ dims
-  unfolding rowOf rowToLay
-  row-length =
-      by-cases (λ x. length x ≡ dims) (p .header .«internal_shingling») (take dims (windowAfter p point)) point
-      (λ on. length-take-le dims (windowAfter p point) window-length)
-      (λ off. sized ∙ length-off (p .header) off)
-
-  pub sequenced-sound : Sound (sequenced p point)
-  unfolding sequenced
-  sequenced-sound = with-window p w (windowAfter p point) (p .header .«next_sequence_index» + 1) window-length
+use Rattle.store_laws.specs.AddDecisionLaws.{Kept, waits-on, keeps-on}
+use Rattle.store_laws.specs.WindowLaws.{row-length, sequenced-sound}
 
 -- the next index of a table, with a row's place
 module _ {E : Type 0} (p : PointStore E) (w : Sound p) (n : ℕ) (t : Counted) (location : List ℕ) (ready : Ready p n t location) (place : ℕ) (some : place ≡ 65535 → ⊥) where
@@ -181,7 +64,7 @@ module _ {E : Type 0} (p : PointStore E) (w : Sound p) (n : ℕ) (t : Counted) (
       r empty-after
 
 -- a table that is empty and not full can grow
-can-grow : (s : Store) → tableLength s ≤ s .capacity → tableFull s ≡ false → s .«index_manager» .last_in_use ≡ 0 → tableLength s < grown (tableLength s) 0 (s .capacity)
+pub can-grow : (s : Store) → tableLength s ≤ s .capacity → tableFull s ≡ false → s .«index_manager» .last_in_use ≡ 0 → tableLength s < grown (tableLength s) 0 (s .capacity)
 unfolding tableFull
 can-grow s h f e =
     let n : ℕ = tableLength s in

@@ -2,9 +2,9 @@
 use Prim.Native.Nat.{ℕ, _*_, _/_, _%_, _≤_, _<_, _∣_}
 use native.Mathlib.Nat.{div-mul-cancel, dvd-of-mod-eq-zero, mod-eq-zero-of-dvd, dvd-mul-right}
 use native.Mathlib.Omega.{arith}
-use mathlib.Core.Bool.{true, _&&_}
-use mathlib.Core.Path.{_≡_, sym, subst}
-use lib.Dec.{leb, eqb}
+use mathlib.Core.Bool.{true}
+use mathlib.Core.Path.{_≡_, subst}
+use lib.Dec.{leb}
 use borrow.Author.Tests.{eq-eqb, eqb-true, le-leb, leb-true}
 use Rattle.terms.specs.Below.{both, and-make, positive}
 use Rattle.placement.specs.Places.{Shaped}

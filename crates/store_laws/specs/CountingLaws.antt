@@ -10,22 +10,22 @@ use lib.Seq.{getD-set-same, getD-set-other}
 use lib.Dec.{eqb}
 use borrow.Author.Tests.{eq-eqb, ne-eqb}
 use Rattle.interval_store_manager.specs.Calls.{Decided, go, refuse}
-use Rattle.labels.specs.Counted.{countAt, raised, lowered}
+use Rattle.labels.specs.Counted.{raised, lowered}
 use Rattle.labels.specs.CountedLaws.{stored, raise-keeps, lower-keeps, lowered-counts}
 use Rattle.labels.specs.Decisions.{none, incDecided, decDecided}
-use Rattle.labels.specs.Labels.{Labels, labelRaised, labelLowered}
+use Rattle.labels.specs.Labels.{labelRaised, labelLowered}
 use Rattle.labels.specs.CountLaws.{inc-keeps as label-inc-keeps, dec-keeps as label-dec-keeps}
-use Rattle.labels.specs.Sound.{Sound as LabelsSound}
 use Rattle.store_definitions.specs.Memory.{PointStore}
 use Rattle.store_definitions.specs.Answers.{done, Outcome, outcome}
 use Rattle.store_definitions.specs.Parts.{tableLength, pointTable, labelHalf, withPoints, withLabels}
-use Rattle.store_definitions.specs.Decisions.{andThen, refuseIf, formDecided, touchDecided}
+use Rattle.store_definitions.specs.Decisions.{andThen, formDecided, touchDecided}
 use Rattle.store_definitions.specs.Counting.{Pairing, incTest, decTest, incremented, placeAfterDec, decremented, incSpec, decSpec, pairDecided, pairDone, pairCarriedOut, adjustFrom, adjustSpec}
 use Rattle.store_definitions.specs.WellFormed.{classTable, wellFormed}
 use Rattle.store_laws.specs.Sound.{Sound, sound, sound-make}
-use Rattle.store_laws.specs.Lengths.{either, by-cases, raised-lengths, lowered-lengths}
+use Rattle.store_laws.specs.Cases.{either, by-cases}
+use Rattle.store_laws.specs.Lengths.{raised-lengths, lowered-lengths}
 use Rattle.store_laws.specs.PointsLaws.{rows-fewer, with-points, with-labels}
-use Rattle.store_laws.specs.DecisionLaws.{both-go, not-refused, touch-go, Used, inc-label-go, dec-label-go, carried}
+use Rattle.store_laws.specs.DecisionLaws.{both-go, touch-go, Used, inc-label-go, dec-label-go, carried}
 
 module _ {E : Type 0} where
   module _ (p : PointStore E) (w : Sound p) (i : ℕ) (h : i < tableLength (p .header)) (u : 0 < getD (p .memory .referenceCount) i 0) where

@@ -1,7 +1,7 @@
 -- What an accepted call may rely on.
 use Prim.Native.Nat.{ℕ, _<_}
 use native.Mathlib.Omega.{arith}
-use mathlib.Core.Bool.{Bool, true, false, cond, _&&_}
+use mathlib.Core.Bool.{Bool, true, false, cond}
 use mathlib.Core.List.{List}
 use mathlib.Core.Path.{_≡_, refl}
 use lib.ListN.{getD}
@@ -9,7 +9,7 @@ use lib.Dec.{ltb, eqb}
 use borrow.Author.Tests.{ltb-true, eqb-false}
 use Rattle.terms.specs.Below.{both}
 use Rattle.interval_store_manager.specs.Calls.{Decided, go, refuse}
-use Rattle.labels.specs.Decisions.{none, inUse, incDecided, decDecided}
+use Rattle.labels.specs.Decisions.{inUse, incDecided, decDecided}
 use Rattle.store_definitions.specs.Memory.{PointStore}
 use Rattle.store_definitions.specs.Parts.{tableLength}
 use Rattle.store_definitions.specs.Answers.{Outcome}
@@ -57,10 +57,6 @@ unfolding decDecided
 dec-label-go capacity counts l e = used capacity counts l (allowed (inUse true capacity counts l) 6 e)
 
 module _ {E : Type 0} where
-  pub form-go : (p : PointStore E) → formDecided p ≡ go → wellFormed p ≡ true
-  unfolding formDecided
-  form-go p e = allowed (wellFormed p) 1 e
-
   pub touch-go : (p : PointStore E) (i : ℕ) → touchDecided p i ≡ go → (i < tableLength (p .header)) × (0 < getD (p .memory .referenceCount) i 0)
   unfolding touchDecided live
   touch-go p i e =
@@ -71,3 +67,27 @@ module _ {E : Type 0} where
   pub carried : (P : PointStore E → Type 0) (d : Decided) (p : PointStore E) (o : Outcome E) → P p → (d ≡ go → P (o .after)) → P (carriedOut d p o .after)
   carried P go p o h f = f refl
   carried P (refuse n) p o h f = h
+
+-- a refusal that a decision never gives
+abbrev pub Never : ℕ → Decided → Type 0
+Never k d = d ≡ refuse k → ⊥
+
+module _ (k : ℕ) where
+  pub never-go : Never k go
+  never-go e = let z : _≡_ {A = ℕ} 0 1 = cc in omega arith
+
+  pub never-then : (a b : Decided) → Never k a → Never k b → Never k (andThen a b)
+  never-then go b f g = g
+  never-then (refuse n) b f g = f
+
+  pub never-if : (b : Bool) (n : ℕ) → (n ≡ k → ⊥) → Never k (refuseIf b n)
+  never-if true n d e = d (cc)
+  never-if false n d e = never-go e
+
+  pub never-unless : (b : Bool) (n : ℕ) → (n ≡ k → ⊥) → Never k (cond b go (refuse n))
+  never-unless true n d e = never-go e
+  never-unless false n d e = d (cc)
+
+  pub form-never : {E : Type 0} (p : PointStore E) → (1 ≡ k → ⊥) → Never k (formDecided p)
+  unfolding formDecided
+  form-never p d = never-unless (wellFormed p) 1 d

@@ -1,18 +1,17 @@
 -- A row laid in rows that have room for it leaves sound rows, before and after an index has its place.
-use Prim.Native.Nat.{ℕ, _+_, _*_, _-_, _≤_, _<_}
+use Prim.Native.Nat.{ℕ, _+_, _*_, _≤_, _<_}
 use native.Mathlib.Omega.{arith}
 use mathlib.Core.Bool.{Bool, false}
 use mathlib.Core.List.{List}
 use mathlib.Core.Logic.{inr}
-use mathlib.Core.Path.{_≡_, refl, sym, _∙_}
+use mathlib.Core.Path.{_≡_, refl}
 use lib.ListN.{length, take, set, length-set}
 use lib.Seq.{take-set-lt}
 use borrow.Author.Tests.{ltb-false}
 use Rattle.placement.specs.Laying.{writtenCount, laidAs, laidElements, laidFree, placeOf}
 use Rattle.placement.specs.LayingLaws.{LayingKeeps, laying-keeps, well-laid, distinct-laid}
-use Rattle.placement.specs.Overlap.{overlaps}
 use Rattle.store_definitions.specs.declared.Store.{Store}
-use Rattle.store_definitions.specs.Parts.{baseOf, extraOf, tableLength, Rows}
+use Rattle.store_definitions.specs.Parts.{baseOf, Rows}
 use Rattle.store_definitions.specs.Adding.{joins, overflows, laidRows, laidHow}
 use Rattle.store_laws.specs.BoundsLaws.{InBounds}
 use Rattle.store_laws.specs.Sound.{RowsSound}
@@ -39,7 +38,7 @@ module _ {E : Type 0} (eq : E → E → Bool) (s : Store) (r : Rows E) (row : Li
   unfolding overflows laidFree
   written = ltb-false (r .storeLength) (r .free + writtenCount dims base j) room
 
-  laying : LayingKeeps eq dims base j (r .free) (r .elements) row after
+  pub laying : LayingKeeps eq dims base j (r .free) (r .elements) row after
   unfolding joins laidFree
   laying =
       laying-keeps eq dims base (s .«shingle_size») (r .free) (r .elements) row (w .well-placed .shaped) (w .free-whole) sized j refl

@@ -1,6 +1,6 @@
 -- A table of counts keeps the lengths of its lists, whatever its manager does.
 use Prim.Native.Nat.{ℕ, _+_, _-_}
-use mathlib.Core.Bool.{Bool, true, false, cond, _&&_}
+use mathlib.Core.Bool.{Bool, cond, _&&_}
 use mathlib.Core.List.{List}
 use mathlib.Core.Path.{_≡_, refl}
 use lib.ListN.{length, getD, set, length-set}
@@ -9,15 +9,7 @@ use Rattle.interval_store_manager.specs.declared.IntervalStoreManager.{Interval
 use Rattle.interval_store_manager.specs.Answers.{done, given, Outcome, outcome}
 use Rattle.interval_store_manager.specs.Calls.{manager, pushed, changed, taken, released}
 use Rattle.labels.specs.Counted.{Counted, counted, countAt, nextIndex, indexTaken, raised, lowered}
-
--- what holds of both holds of either
-pub either : {A : Type 0} (P : A → Type 0) (b : Bool) (x y : A) → P x → P y → P (cond b x y)
-either P true x y f g = f
-either P false x y f g = g
-
-pub by-cases : {A : Type 0} (P : A → Type 0) (b : Bool) (x y : A) → (b ≡ true → P x) → (b ≡ false → P y) → P (cond b x y)
-by-cases P true x y f g = f refl
-by-cases P false x y f g = g refl
+use Rattle.store_laws.specs.Cases.{either}
 
 -- the stack after a call of the manager
 pub record SameStack (starts ends : List ℕ) (o : Outcome) : Type 0 where

@@ -1,4 +1,6 @@
+pub mod Cases
 pub mod BoundsLaws
+pub mod LentLaws
 pub mod PlacesLaws
 pub mod Sound
 pub mod DecisionLaws
@@ -6,6 +8,13 @@ pub mod RowsLaws
 pub mod Lengths
 pub mod PointsLaws
 pub mod CountingLaws
+pub mod AdjustLaws
 pub mod TableLaws
 pub mod LaidLaws
+pub mod AddDecisionLaws
+pub mod WindowLaws
 pub mod AddingLaws
+pub mod OpeningLaws
+pub mod RefusalLaws
+pub mod IllFormedLaws
+pub mod WellFormedLaws

@@ -1,18 +1,18 @@
 -- A store stays sound with another table of points, other places, another label half or another window.
-use Prim.Native.Nat.{ℕ, _+_, _*_, _≤_, _<_}
+use Prim.Native.Nat.{ℕ, _≤_, _<_}
 use native.Mathlib.Omega.{arith}
 use mathlib.Core.List.{List}
-use mathlib.Core.Path.{_≡_, refl, sym, _∙_, subst}
+use mathlib.Core.Path.{_≡_, sym, _∙_, subst}
 use lib.ListN.{length, getD, take}
-use lib.Seq.{length-take-le, getD-take}
+use lib.Seq.{getD-take}
 use lib.Dec.{eqb}
-use Rattle.placement.specs.Places.{Live, WellPlaced, Distinct}
+use Rattle.placement.specs.Places.{Live}
 use Rattle.labels.specs.Counted.{Counted, countAt}
 use Rattle.labels.specs.CountedLaws.{WellCounted}
 use Rattle.labels.specs.Labels.{Labels}
 use Rattle.labels.specs.Sound.{Sound as LabelsSound}
 use Rattle.store_definitions.specs.Memory.{PointStore}
-use Rattle.store_definitions.specs.Parts.{baseOf, tableLength, Rows, rowsOf, pointTable, withPoints, withLabels, withWindow}
+use Rattle.store_definitions.specs.Parts.{baseOf, Rows, rowsOf, pointTable, withPoints, withLabels, withWindow}
 use Rattle.store_definitions.specs.WellFormed.{classTable}
 use Rattle.store_laws.specs.PlacesLaws.{live-below, live-placed, live-make}
 use Rattle.store_laws.specs.Sound.{RowsSound, Sound}

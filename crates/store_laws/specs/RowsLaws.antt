@@ -1,18 +1,17 @@
 -- Compaction, growth and the room that an add makes keep rows sound, and empty the place of no point.
-use Prim.Native.Nat.{ℕ, _+_, _*_, _-_, _≤_, _<_}
+use Prim.Native.Nat.{ℕ, _*_, _≤_, _<_}
 use native.Mathlib.Decide.{ℕ-discrete}
 use native.Mathlib.Omega.{arith}
-use mathlib.Core.Bool.{Bool, true, false, cond}
+use mathlib.Core.Bool.{Bool, true, cond}
 use mathlib.Core.List.{List, _++_}
 use mathlib.Core.Path.{_≡_, refl, sym, _∙_}
-use lib.ListN.{length, getD, take, drop, replicate, length-append, length-drop, length-replicate, List·getD-append}
+use lib.ListN.{length, getD, take, drop, length-append, length-drop, length-replicate, List·getD-append}
 use lib.Seq.{length-take-le, take-at, getD-take}
 use lib.Dec.{eqb}
 use borrow.Author.Tests.{eq-eqb, ne-eqb}
 use Rattle.placement.specs.Compaction.{Layout, compacted}
 use Rattle.placement.specs.CompactionLaws.{CompactionKeeps, compaction-keeps, well-after, distinct-after}
 use Rattle.placement.specs.Growth.{grown, grown-within}
-use Rattle.placement.specs.Places.{WellPlaced, Distinct}
 use Rattle.store_definitions.specs.declared.Store.{Store}
 use Rattle.store_definitions.specs.Memory.{PointStore}
 use Rattle.store_definitions.specs.Parts.{baseOf, tableLength, Rows, rowsOf, withRows}
@@ -20,6 +19,7 @@ use Rattle.store_definitions.specs.Answers.{done, outcome}
 use Rattle.store_definitions.specs.Decisions.{formDecided}
 use Rattle.store_definitions.specs.Rows.{compactedRows, grownRows, short, roomMade, compactSpec}
 use Rattle.store_definitions.specs.WellFormed.{wellFormed}
+use Rattle.store_laws.specs.Cases.{either}
 use Rattle.store_laws.specs.PlacesLaws.{live-make}
 use Rattle.store_laws.specs.Sound.{RowsSound, Sound, sound, sound-make}
 use Rattle.store_laws.specs.DecisionLaws.{carried}
@@ -122,25 +122,27 @@ module _ {E : Type 0} (zeroElement : E) (s : Store) (t : tableLength s ≤ s .ca
           distinct-places = w .distinct-places;
         }
 
-  -- one of three rows
-  chosen : (P : Rows E → Type 0) (a b : Bool) (x y z : Rows E) → P x → P y → P z → P (cond a (cond b x y) z)
-  chosen P true true x y z f g h = f
-  chosen P true false x y z f g h = g
-  chosen P false b x y z f g h = h
-
   module _ (r : Rows E) (w : RowsOf s r) where
     abbrev c : Rows E
     c = compactedRows zeroElement s r
 
+    abbrev longerRows : Rows E
+    longerRows = grownRows zeroElement s c
+
     pub room-sound : RowsOf s (roomMade zeroElement s r)
     unfolding roomMade
-    room-sound = chosen (RowsOf s) (short zeroElement s r) (short zeroElement s c) (grownRows zeroElement s c) c r (grown-sound c (compacted-sound r w)) (compacted-sound r w) w
+    room-sound =
+        let b : Bool = short zeroElement s c in
+        either (RowsOf s) (short zeroElement s r) (cond b longerRows c) r
+        (either (RowsOf s) b longerRows c (grown-sound c (compacted-sound r w)) (compacted-sound r w))
+        w
 
     pub room-empty : SameEmpty n (r .location) (roomMade zeroElement s r .location)
     unfolding roomMade grownRows
     room-empty =
-        chosen (λ x. SameEmpty n (r .location) (x .location)) (short zeroElement s r) (short zeroElement s c) (grownRows zeroElement s c) c r (compacted-empty r w) (compacted-empty r w)
-        (λ i h. refl)
+        let b : Bool = short zeroElement s c in
+        let P : Rows E → Type 0 = λ x. SameEmpty n (r .location) (x .location) in
+        either P (short zeroElement s r) (cond b longerRows c) r (either P b longerRows c (compacted-empty r w) (compacted-empty r w)) (λ i h. refl)
 
 pub compact-keeps : {E : Type 0} (zeroElement : E) (p : PointStore E) → wellFormed p ≡ true → wellFormed (compactSpec zeroElement p .after) ≡ true
 unfolding compactSpec

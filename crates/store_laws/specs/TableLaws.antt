@@ -2,21 +2,18 @@
 use Prim.Native.Nat.{ℕ, _+_, _-_, _≤_, _<_}
 use native.Mathlib.Decide.{decLt}
 use native.Mathlib.Omega.{arith}
-use mathlib.Core.Bool.{Bool, true, false, _||_, or-true, or-false}
+use mathlib.Core.Bool.{or-true, or-false}
 use mathlib.Core.List.{List, _++_}
-use mathlib.Core.Path.{_≡_, refl, sym, _∙_, ap}
+use mathlib.Core.Path.{_≡_, refl, _∙_, ap}
 use lib.ListN.{length, getD, take, drop, replicate, length-append, length-drop, length-replicate, List·getD-append, getD-replicate}
 use lib.Seq.{length-take-le, getD-take, getD-append-add}
 use lib.Dec.{eqb}
-use borrow.Author.Tests.{eq-eqb}
 use Rattle.interval_store_manager.specs.Answers.{Outcome}
 use Rattle.interval_store_manager.specs.Calls.{pushed, changed}
-use Rattle.interval_store_manager.specs.Intervals.{inside, isFree}
 use Rattle.interval_store_manager.specs.IntervalLaws.{inside-left, inside-yes}
 use Rattle.interval_store_manager.specs.ChangeLaws.{changed-up, change-keeps, change-free}
 use Rattle.labels.specs.Counted.{Counted, counted, countAt, free}
 use Rattle.labels.specs.CountedLaws.{WellCounted}
-use Rattle.placement.specs.Growth.{grown, grown-within}
 use Rattle.store_definitions.specs.Memory.{PointStore}
 use Rattle.store_definitions.specs.Parts.{tableLength, pointTable}
 use Rattle.store_definitions.specs.Adding.{entriesFilled}

@@ -1,8 +1,7 @@
 -- A label and its slot are each lowered; the slot of a live label is live.
 use native.Mathlib.Omega.{arith}
-use borrow.Author.Needs.{needs, scaled-fits}
+use borrow.Author.Needs.{scaled-fits}
 use mathlib.Core.Path.{ap₂}
-use lib.ListN.{getD}
 use Rattle.labels.specs.Counted.{Counted}
 use Rattle.labels.specs.Labels.{labelLowered, withTables}
 use Rattle.labels.specs.Sound.{sound}

@@ -1,11 +1,11 @@
 -- The invariant: no slot that was passed is live and holds the class.
 use Prim.Native.Nat.{ℕ, _≤_, _<_, _-_}
 use native.Mathlib.Omega.{arith}
-use borrow.Author.Needs.{needs, scaled-fits}
+use borrow.Author.Needs.{scaled-fits}
 use borrow.Author.Count.{below-more}
 use mathlib.Core.Bool.{false}
 use mathlib.Core.Logic.{⊎-elim}
-use mathlib.Core.Path.{_≡_, refl}
+use mathlib.Core.Path.{_≡_}
 use Rattle.labels.specs.Labels.{holdsClass}
 use Rattle.labels.specs.TakeSlotLaws.{not-live, other-class, class-found, class-none}
 use Rattle.labels.proofs.take.class_slot.Statement.{statement}

@@ -1,0 +1,16 @@
+// The calls that count: one more or one less of a point and of its label, lists of such pairs, and the readings of a count, of
+// the number of live points and of the free start. Each public call takes any store and any memory: it checks them first.
+mod decide;
+mod lower;
+mod raise;
+mod read;
+
+pub use lower::dec;
+pub use lower::dec_accepted;
+pub use lower::dec_well_formed;
+pub use raise::inc;
+pub use raise::inc_accepted;
+pub use raise::inc_well_formed;
+pub use read::count;
+pub use read::free_start;
+pub use read::live_number;
