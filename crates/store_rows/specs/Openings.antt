@@ -1,5 +1,5 @@
 -- Opening as its code makes it: the points' tables, then the labels'.
-use Prim.Native.Nat.{ℕ, suc, _+_, _*_, _-_, _≤_, _<_}
+use Prim.Native.Nat.{ℕ, _+_, _*_, _-_, _≤_, _<_}
 use native.Mathlib.Nat.{le-of-eq, mul-le-mul-right}
 use native.Mathlib.Omega.{arith}
 use mathlib.Core.List.{List, _++_}
@@ -14,11 +14,12 @@ use Rattle.terms.specs.Refusals.{number}
 use Rattle.interval_store_manager.specs.Answers.{Opening}
 use Rattle.interval_store_manager.specs.Calls.{go, refuse, manager, newSpec}
 use Rattle.interval_store_manager.specs.WellFormed.{capacityAllowed, lentEnough as stackLent}
-use Rattle.placement.specs.InPlace.{filled, fill-turn}
+use Rattle.placement.specs.InPlace.{filled}
 use Rattle.labels.specs.declared.LabelManagers.{LabelManagers}
 use Rattle.labels.specs.Labels.{Labels}
 use Rattle.labels.specs.Forms.{labelHalf as labelsHeld}
-use Rattle.labels.specs.Opening.{cleared, labelsOpened}
+use Rattle.labels.specs.Opening.{labelsOpened, Openable}
+use Rattle.label_opening.specs.OpeningLaws.{LabelsOpenable}
 use Rattle.store_definitions.specs.declared.Store.{Store}
 use Rattle.store_definitions.specs.declared.Shape.{Shape}
 use Rattle.store_definitions.specs.declared.Done.{Done}
@@ -48,21 +49,7 @@ filled-first {X} x n xs =
 pub filled-from-first : {X : Type 0} (x : X) (n : ℕ) (xs : List X) → filled x 0 (n - 0) xs ≡ filledFirst n x xs
 filled-from-first {X} x n xs = ap (λ (k : ℕ). filled x 0 k xs) (let e : n - 0 ≡ n = omega arith in e) ∙ filled-first x n xs
 
--- one entry more of such a run
-pub fill-first-next : {X : Type 0} (x : X) (n i : ℕ) (xs l : List X) → i < n → n ≤ length xs → l ≡ paste xs 0 (replicate n x) i → set l i x ≡ paste xs 0 (replicate n x) (i + 1)
-fill-first-next {X} x n i xs l h k e =
-    ap (λ (t : List X). set t i x) e
-    ∙ ap (λ (j : ℕ). set (paste xs 0 (replicate n x) i) j x) (let e : i ≡ 0 + i = omega arith in e)
-    ∙ fill-turn x 0 i n xs h (omega arith)
-    ∙ ap (λ (j : ℕ). paste xs 0 (replicate n x) j) (let e : suc i ≡ i + 1 = omega arith in e)
-
-pub record StackReady (capacity starts ends : ℕ) : Type 0 where
-  pub least : 1 ≤ capacity
-  pub most : capacity ≤ 1024
-  pub starts-lent : capacity ≤ starts
-  pub ends-lent : capacity ≤ ends
-
-pub stack-opened : (c : ℕ) (starts ends : List ℕ) (o : Opening) → StackReady c (length starts) (length ends) → o ≡ newSpec c starts ends → (o .starts ≡ set starts 0 0) × (o .ends ≡ set ends 0 (c - 1))
+pub stack-opened : (c : ℕ) (starts ends : List ℕ) (o : Opening) → Openable c starts ends → o ≡ newSpec c starts ends → (o .starts ≡ set starts 0 0) × (o .ends ≡ set ends 0 (c - 1))
 unfolding newSpec capacityAllowed stackLent
 stack-opened c starts ends o r e =
     rw (e, le-leb 1 c (r .least), le-leb c 1024 (r .most), le-leb c (length starts) (r .starts-lent), le-leb c (length ends) (r .ends-lent)) (refl, refl)
@@ -105,7 +92,7 @@ points-opened h p store window counts location starts ends a b d e f =
 pub start-floats : (h : Shape) (p : Points) → PointsReady h p → h .«initial_capacity» * h .dimensions ≤ h .capacity * h .dimensions
 start-floats h p r = mul-le-mul-right (h .dimensions) (r .start-most)
 
-pub start-stack : (h : Shape) (p : Points) → PointsReady h p → StackReady (h .«initial_capacity») (length (p .indexStarts)) (length (p .indexEnds))
+pub start-stack : (h : Shape) (p : Points) → PointsReady h p → Openable (h .«initial_capacity») (p .indexStarts) (p .indexEnds)
 start-stack h p r =
     record {
       least = r .start-least;
@@ -135,34 +122,20 @@ labelsLentIf on c l =
     && (leb c (length (l .attributeTable .starts)) && leb c (length (l .attributeTable .ends))))))))))
     true
 
-pub record LabelsReady (c : ℕ) (l : Labels) : Type 0 where
-  pub least : 1 ≤ c
-  pub most : c ≤ 1024
-  pub codes-lent : c ≤ length (l .labels)
-  pub slots-lent : c ≤ length (l .labelAttributes)
-  pub counts-lent : c ≤ length (l .labelTable .counts)
-  pub starts-lent : c ≤ length (l .labelTable .starts)
-  pub ends-lent : c ≤ length (l .labelTable .ends)
-  pub classes-lent : c ≤ length (l .attributes)
-  pub slot-counts-lent : c ≤ length (l .attributeTable .counts)
-  pub slot-starts-lent : c ≤ length (l .attributeTable .starts)
-  pub slot-ends-lent : c ≤ length (l .attributeTable .ends)
-
-pub label-stack : (c : ℕ) (l : Labels) → LabelsReady c l → StackReady c (length (l .labelTable .starts)) (length (l .labelTable .ends))
-label-stack c l r = record { least = r .least; most = r .most; starts-lent = r .starts-lent; ends-lent = r .ends-lent }
-
-pub slot-stack : (c : ℕ) (l : Labels) → LabelsReady c l → StackReady c (length (l .attributeTable .starts)) (length (l .attributeTable .ends))
-slot-stack c l r = record { least = r .least; most = r .most; starts-lent = r .slot-starts-lent; ends-lent = r .slot-ends-lent }
+-- a label half with other managers
+abbrev pub labelsWith : LabelManagers → Labels → Labels
+labelsWith r l =
+    labelsHeld r (l .labels) (l .labelAttributes) (l .labelTable .counts) (l .labelTable .starts) (l .labelTable .ends) (l .attributes) (l .attributeTable .counts) (l .attributeTable .starts) (l .attributeTable .ends)
 
 module _ (on : Bool) (c : ℕ) (l : Labels) where
   pub labels-off : on ≡ false → l ≡ labelsOpenedIf on c l
   unfolding labelsOpenedIf
   labels-off e = rw e
 
-  pub labels-on : (labels slots counts starts ends classes slotCounts slotStarts slotEnds : List ℕ) → on ≡ true → labels ≡ cleared c (l .labels) → slots ≡ filled 0 0 (c - 0) (l .labelAttributes) → counts ≡ filled 0 0 (c - 0) (l .labelTable .counts) → (starts ≡ set (l .labelTable .starts) 0 0) × (ends ≡ set (l .labelTable .ends) 0 (c - 1)) → classes ≡ cleared c (l .attributes) → slotCounts ≡ filled 0 0 (c - 0) (l .attributeTable .counts) → (slotStarts ≡ set (l .attributeTable .starts) 0 0) × (slotEnds ≡ set (l .attributeTable .ends) 0 (c - 1)) → labelsHeld (labelManagers c) labels slots counts starts ends classes slotCounts slotStarts slotEnds ≡ labelsOpenedIf on c l
-  unfolding labelsOpenedIf labelsOpened
-  labels-on labels slots counts starts ends classes slotCounts slotStarts slotEnds e a b d f g h i =
-      rw (e, a, b ∙ filled-from-first 0 c (l .labelAttributes), d ∙ filled-from-first 0 c (l .labelTable .counts), f .0, f .1, g, h ∙ filled-from-first 0 c (l .attributeTable .counts), i .0, i .1)
+-- the managers play no part in what is written
+pub labels-on : (on : Bool) (c : ℕ) (l k : Labels) → on ≡ true → k ≡ labelsOpened c l → labelsWith (labelManagers c) k ≡ labelsOpenedIf on c (labelsWith (labelManagers c) l)
+unfolding labelsOpenedIf labelsOpened
+labels-on on c l k h e = rw h (ap (λ (x : Labels). labelsWith (labelManagers c) x) e)
 
 abbrev pub pointsOf : Memory ℕ → Points
 pointsOf m = points (m .store) (m .lastKnownShingle) (m .referenceCount) (m .location) (m .indexStarts) (m .indexEnds)
@@ -226,7 +199,7 @@ module _ (h : Shape) (m : Memory ℕ) where
   tests true false e = no-go e
   tests false b e = no-go e
 
-  labels-ready : (on : Bool) → 1 ≤ c → c ≤ 1024 → cond on (labelsLent c m) true ≡ true → on ≡ true → LabelsReady c (labelsOf c m)
+  labels-ready : (on : Bool) → 1 ≤ c → c ≤ 1024 → cond on (labelsLent c m) true ≡ true → on ≡ true → LabelsOpenable c (m .labels) (m .labelAttributes) (m .labelCount) (m .labelStarts) (m .labelEnds) (m .attributes) (m .attributeCount) (m .attributeStarts) (m .attributeEnds)
   unfolding labelsLent
   labels-ready false l u e f = absurd (false≢true f)
   labels-ready true l u e f =
@@ -239,22 +212,18 @@ module _ (h : Shape) (m : Memory ℕ) where
       let p7 = both (leb c (length (m .attributeCount))) _ (p6 .1) in
       let p8 = both (leb c (length (m .attributeStarts))) (leb c (length (m .attributeEnds))) (p7 .1) in
       record {
-        least = l;
-        most = u;
-        codes-lent = leb-true c (length (m .labels)) (p1 .0);
+        label-manager = record { least = l; most = u; starts-lent = leb-true c (length (m .labelStarts)) (p4 .0); ends-lent = leb-true c (length (m .labelEnds)) (p5 .0) };
+        slot-manager = record { least = l; most = u; starts-lent = leb-true c (length (m .attributeStarts)) (p8 .0); ends-lent = leb-true c (length (m .attributeEnds)) (p8 .1) };
+        labels-lent = leb-true c (length (m .labels)) (p1 .0);
         slots-lent = leb-true c (length (m .labelAttributes)) (p2 .0);
         counts-lent = leb-true c (length (m .labelCount)) (p3 .0);
-        starts-lent = leb-true c (length (m .labelStarts)) (p4 .0);
-        ends-lent = leb-true c (length (m .labelEnds)) (p5 .0);
         classes-lent = leb-true c (length (m .attributes)) (p6 .0);
         slot-counts-lent = leb-true c (length (m .attributeCount)) (p7 .0);
-        slot-starts-lent = leb-true c (length (m .attributeStarts)) (p8 .0);
-        slot-ends-lent = leb-true c (length (m .attributeEnds)) (p8 .1);
       }
 
   pub record OpeningReady : Type 0 where
     pub of-points : PointsReady h (pointsOf m)
-    pub of-labels : h .«store_labels» ≡ true → LabelsReady c (labelsOf c m)
+    pub of-labels : h .«store_labels» ≡ true → LabelsOpenable c (m .labels) (m .labelAttributes) (m .labelCount) (m .labelStarts) (m .labelEnds) (m .attributes) (m .attributeCount) (m .attributeStarts) (m .attributeEnds)
     pub floats-few : h .«initial_capacity» * h .dimensions ≤ 16384
 
   pub opening-ready : openDecided h m ≡ go → OpeningReady

@@ -1,11 +1,12 @@
 // What an opening writes into the lent tables: the entries that a fresh store has in use, and nothing past them.
 ghost use mathlib.Core.Bool.{true};
 ghost use mathlib.Core.Path.{_≡_};
-ghost use Prim.Native.Nat.{_-_, _≤_};
-ghost use lib.ListN.{length, set};
-ghost use Rattle.labels.specs.Forms.{held, entered, left};
-ghost use Rattle.labels.specs.Opening.{cleared};
-ghost use Rattle.store_rows.specs.Openings.{StackReady, PointsReady, LabelsReady, points, pointsOpened, labelManagers, labelsOpenedIf};
+ghost use Prim.Native.Nat.{_-_};
+ghost use lib.ListN.{set};
+ghost use Rattle.label_opening.specs.OpeningLaws.{LabelsOpenable};
+ghost use Rattle.labels.specs.Forms.{entered, left};
+ghost use Rattle.labels.specs.Opening.{Openable};
+ghost use Rattle.store_rows.specs.Openings.{PointsReady, points, pointsOpened, labelManagers, labelsOpenedIf};
 use interval_store_manager::IntervalStoreManager;
 use placement_rows::fill;
 use placement_rows::fill_table;
@@ -15,20 +16,9 @@ use terms::FloatBits;
 // The place of an index that has no point.
 const EMPTY: u16 = 65535;
 
-fn clear_bytes(bytes: &mut [u8], n: usize)
-    requires { ⌜ n ≤ length (now bytes) ⌝ }
-    ensures { λ _. ⌜ now (bytes .exit) ≡ cleared n (now (bytes .entry)) ⌝ }
-{
-    let mut i = 0;
-    while i < n {
-        bytes[i] = 0;
-        i += 1;
-    }
-}
-
 // A manager's stack with all indices free. Under what is required the manager's own opening refuses nothing.
 fn open_stack(capacity: usize, starts: &mut [u16], ends: &mut [u16])
-    requires { ⌜ StackReady capacity (length (now starts)) (length (now ends)) ⌝ }
+    requires { ⌜ Openable capacity (now starts) (now ends) ⌝ }
     ensures { λ _. ⌜ (now (starts .exit) ≡ set (now (starts .entry)) 0 0) × (now (ends .exit) ≡ set (now (ends .entry)) 0 (capacity - 1)) ⌝ }
 {
     IntervalStoreManager::new(capacity, starts, ends);
@@ -68,16 +58,21 @@ pub fn open_labels(
     attribute_starts: &mut [u16],
     attribute_ends: &mut [u16],
 )
-    requires { ⌜ («store_labels» ≡ true → LabelsReady capacity (held (labelManagers capacity) labels «label_attributes» «label_count» «label_starts» «label_ends» attributes «attribute_count» «attribute_starts» «attribute_ends»)) ⌝ }
+    requires { ⌜ («store_labels» ≡ true → LabelsOpenable capacity (now labels) (now «label_attributes») (now «label_count») (now «label_starts») (now «label_ends») (now attributes) (now «attribute_count») (now «attribute_starts») (now «attribute_ends»)) ⌝ }
     ensures { λ _. ⌜ left (labelManagers capacity) labels «label_attributes» «label_count» «label_starts» «label_ends» attributes «attribute_count» «attribute_starts» «attribute_ends» ≡ labelsOpenedIf «store_labels» capacity (entered (labelManagers capacity) labels «label_attributes» «label_count» «label_starts» «label_ends» attributes «attribute_count» «attribute_starts» «attribute_ends») ⌝ }
 {
     if store_labels {
-        clear_bytes(labels, capacity);
-        fill_table(label_attributes, 0, capacity, 0);
-        fill_table(label_count, 0, capacity, 0);
-        open_stack(capacity, label_starts, label_ends);
-        clear_bytes(attributes, capacity);
-        fill(attribute_count, 0, capacity, 0);
-        open_stack(capacity, attribute_starts, attribute_ends);
+        label_opening::open_labels(
+            capacity,
+            labels,
+            label_attributes,
+            label_count,
+            label_starts,
+            label_ends,
+            attributes,
+            attribute_count,
+            attribute_starts,
+            attribute_ends,
+        );
     }
 }
