@@ -43,7 +43,7 @@ module _ {E F : Type 0} (store window : List F) where
   abbrev pub refilledOutcome : Outcome E → Outcome F
   refilledOutcome o = outcome (o .answer) (refilled (o .after))
 
-  branch-refilled : (b : Bool) (p q : PointStore E) → refilled (cond b p q) ≡ cond b (refilled p) (refilled q)
+  pub branch-refilled : (b : Bool) (p q : PointStore E) → refilled (cond b p q) ≡ cond b (refilled p) (refilled q)
   branch-refilled true p q = refl
   branch-refilled false p q = refl
 
@@ -70,7 +70,7 @@ module _ {F : Type 0} (s : Store) (m : Memory F) where
   abbrev whole : PointStore F
   whole = pointStore s m
 
-  form-same : formDecided bare ≡ formDecided whole
+  pub form-same : formDecided bare ≡ formDecided whole
   unfolding formDecided
   form-same = ap (λ (b : Bool). cond b go (refuse 1)) (well-formed-lengths s m)
 

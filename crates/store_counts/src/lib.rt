@@ -5,6 +5,8 @@ mod lower;
 mod raise;
 mod read;
 
+pub use decide::dec_test;
+pub use decide::inc_test;
 pub use lower::dec;
 pub use lower::dec_accepted;
 pub use lower::dec_well_formed;

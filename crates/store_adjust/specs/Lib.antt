@@ -1,0 +1,4 @@
+pub mod Pairs
+pub mod PairLaws
+pub mod Run
+pub mod Elements
