@@ -71,3 +71,27 @@ module _ {E : Type 0} where
   pub carried : (P : PointStore E → Type 0) (d : Decided) (p : PointStore E) (o : Outcome E) → P p → (d ≡ go → P (o .after)) → P (carriedOut d p o .after)
   carried P go p o h f = f refl
   carried P (refuse n) p o h f = h
+
+-- a refusal that a decision never gives
+abbrev pub Never : ℕ → Decided → Type 0
+Never k d = d ≡ refuse k → ⊥
+
+module _ (k : ℕ) where
+  pub never-go : Never k go
+  never-go e = let z : _≡_ {A = ℕ} 0 1 = cc in omega arith
+
+  pub never-then : (a b : Decided) → Never k a → Never k b → Never k (andThen a b)
+  never-then go b f g = g
+  never-then (refuse n) b f g = f
+
+  pub never-if : (b : Bool) (n : ℕ) → (n ≡ k → ⊥) → Never k (refuseIf b n)
+  never-if true n d e = d (cc)
+  never-if false n d e = never-go e
+
+  pub never-unless : (b : Bool) (n : ℕ) → (n ≡ k → ⊥) → Never k (cond b go (refuse n))
+  never-unless true n d e = never-go e
+  never-unless false n d e = d (cc)
+
+  pub form-never : {E : Type 0} (p : PointStore E) → (1 ≡ k → ⊥) → Never k (formDecided p)
+  unfolding formDecided
+  form-never p d = never-unless (wellFormed p) 1 d

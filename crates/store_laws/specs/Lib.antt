@@ -1,4 +1,5 @@
 pub mod BoundsLaws
+pub mod LentLaws
 pub mod PlacesLaws
 pub mod Sound
 pub mod DecisionLaws
@@ -9,3 +10,7 @@ pub mod CountingLaws
 pub mod TableLaws
 pub mod LaidLaws
 pub mod AddingLaws
+pub mod OpeningLaws
+pub mod AdjustLaws
+pub mod RefusalLaws
+pub mod FormLaws

@@ -25,6 +25,7 @@ use Rattle.store_definitions.specs.Parts.{baseOf, tableLength, Rows, rowsOf, po
 use Rattle.store_definitions.specs.Bounds.{boundsHold, rotationAllowed, labelsLent, lentEnough}
 use Rattle.store_definitions.specs.WellFormed.{classTable, freeStartWell, placesDistinct, placesEnd, pointsWell, wellFormed}
 use Rattle.store_laws.specs.BoundsLaws.{InBounds, in-bounds, in-bounds-make, shaped}
+use Rattle.store_laws.specs.LentLaws.{PointsLent, LabelsLent, labels-are-lent-make, lent, lent-make}
 use Rattle.store_laws.specs.PlacesLaws.{live-make, distinct, distinct-make, ends, ends-make}
 
 -- rows of a shape, of which the first n places are in use
@@ -37,13 +38,6 @@ pub record RowsSound {E : Type 0} (dims base capacity n : ℕ) (r : Rows E) : Ty
   pub free-inside : r .free ≤ r .storeLength
   pub well-placed : WellPlaced dims base (take n (r .location)) (r .free) (length (r .elements))
   pub distinct-places : Distinct (take n (r .location))
-
--- the lent lists besides the rows' and the labels'
-pub record PointsLent {E : Type 0} (dims capacity : ℕ) (m : Memory E) : Type 0 where
-  pub window-lent : dims ≤ length (m .lastKnownShingle)
-  pub counts-lent : capacity ≤ length (m .referenceCount)
-  pub starts-lent : capacity ≤ length (m .indexStarts)
-  pub ends-lent : capacity ≤ length (m .indexEnds)
 
 -- no class of the table is above 9
 pub class-most : AtMostNine classTable
@@ -85,35 +79,24 @@ module _ {E : Type 0} where
   labels-are-make false c p f = refl
 
   -- what is lent for the labels follows from the label half
-  pub labels-lent-make : (c : ℕ) (p : PointStore E) → LabelsSound classTable c (labelHalf p) → labelsLent c (p .memory) ≡ true
-  unfolding labelsLent
-  labels-lent-make c p l =
-      let m = p .memory in
+  labels-lent-of : (c : ℕ) (p : PointStore E) → LabelsSound classTable c (labelHalf p) → LabelsLent c (p .memory)
+  labels-lent-of c p l =
       let a = stacks-lent c (labelHalf p .labelTable) (l .label-table) in
       let b = stacks-lent c (labelHalf p .attributeTable) (l .slot-table) in
-      and-make _ _ (le-leb c (length (m .labels)) (l .codes-lent))
-      (and-make _ _ (le-leb c (length (m .labelAttributes)) (l .slots-lent))
-      (and-make _ _ (le-leb c (length (m .labelCount)) (l .label-table .lent))
-      (and-make _ _ (le-leb c (length (m .labelStarts)) (a .0))
-      (and-make _ _ (le-leb c (length (m .labelEnds)) (a .1))
-      (and-make _ _ (le-leb c (length (m .attributes)) (l .classes-lent))
-      (and-make _ _ (le-leb c (length (m .attributeCount)) (l .slot-table .lent))
-      (and-make _ _ (le-leb c (length (m .attributeStarts)) (b .0)) (le-leb c (length (m .attributeEnds)) (b .1)))))))))
+      record {
+        codes-lent = l .codes-lent;
+        slots-lent = l .slots-lent;
+        label-counts-lent = l .label-table .lent;
+        label-starts-lent = a .0;
+        label-ends-lent = a .1;
+        classes-lent = l .classes-lent;
+        slot-counts-lent = l .slot-table .lent;
+        slot-starts-lent = b .0;
+        slot-ends-lent = b .1;
+      }
 
-  lent-make : (b : Bool) (dims c : ℕ) (p : PointStore E) → c * dims ≤ length (p .memory .store) → c ≤ length (p .memory .location) → PointsLent dims c (p .memory) → (b ≡ true → LabelsSound classTable c (labelHalf p)) → lentEnough dims c b (p .memory) ≡ true
-  unfolding lentEnough
-  lent-make b dims c p h g l f =
-      let m = p .memory in
-      and-make _ _ (le-leb (c * dims) (length (m .store)) h)
-      (and-make _ _ (le-leb dims (length (m .lastKnownShingle)) (l .window-lent))
-      (and-make _ _ (le-leb c (length (m .referenceCount)) (l .counts-lent))
-      (and-make _ _ (le-leb c (length (m .location)) g)
-      (and-make _ _ (le-leb c (length (m .indexStarts)) (l .starts-lent))
-      (and-make _ _ (le-leb c (length (m .indexEnds)) (l .ends-lent)) (labelled b f))))))
-    where
-      labelled : (b : Bool) → (b ≡ true → LabelsSound classTable c (labelHalf p)) → cond b (labelsLent c (p .memory)) true ≡ true
-      labelled true f = labels-lent-make c p (f refl)
-      labelled false f = refl
+  pub labels-lent-make : (c : ℕ) (p : PointStore E) → LabelsSound classTable c (labelHalf p) → labelsLent c (p .memory) ≡ true
+  labels-lent-make c p l = labels-are-lent-make c (p .memory) (labels-lent-of c p l)
 
   module _ (p : PointStore E) where
     abbrev s : Store
@@ -129,7 +112,7 @@ module _ {E : Type 0} where
     emptyAt i = Bool·beq (eqb (getD (m .referenceCount) i 0) 0) (eqb (getD (m .location) i 65535) 65535)
 
     pub sound : wellFormed p ≡ true → Sound p
-    unfolding wellFormed lentEnough freeStartWell pointsWell emptyAt
+    unfolding wellFormed freeStartWell pointsWell emptyAt
     sound e =
         let p1 = both _ _ e in
         let p2 = both _ _ (p1 .1) in
@@ -138,32 +121,22 @@ module _ {E : Type 0} where
         let p5 = both _ _ (p4 .1) in
         let p6 = both _ _ (p5 .1) in
         let p7 = both _ _ (p6 .1) in
-        let l1 = both _ _ (p3 .0) in
-        let l2 = both _ _ (l1 .1) in
-        let l3 = both _ _ (l2 .1) in
-        let l4 = both _ _ (l3 .1) in
-        let l5 = both _ _ (l4 .1) in
-        let l6 = both _ _ (l5 .1) in
+        let l = lent (s .capacity) m (s .dimensions) (s .«store_labels») (p3 .0) in
         let f1 = both _ _ (p6 .0) in
         let f2 = both _ _ (f1 .1) in
         let q1 = both _ _ (p7 .0) in
         let q2 = both _ _ (q1 .1) in
         let q3 = both _ _ (q2 .1) in
         let b = in-bounds (s .dimensions) (s .«shingle_size») (s .capacity) (p1 .0) in
-        let floats : s .capacity * s .dimensions ≤ length (m .store) = leb-true (s .capacity * s .dimensions) (length (m .store)) (l1 .0) in
-        let places : s .capacity ≤ length (m .location) = leb-true (s .capacity) (length (m .location)) (l4 .0) in
+        let floats : s .capacity * s .dimensions ≤ length (m .store) = l .floats-lent in
+        let places : s .capacity ≤ length (m .location) = l .places-lent in
         let table : n ≤ s .capacity = leb-true n (s .capacity) (p4 .0) in
         let within : s .«store_length» ≤ s .capacity * s .dimensions = leb-true (s .«store_length») (s .capacity * s .dimensions) (p5 .0) in
         let inside : s .«start_free_region» ≤ s .«store_length» = leb-true (s .«start_free_region») (s .«store_length») (f2 .1) in
         record {
           bounds = b;
           rotation = p2 .0;
-          lent = record {
-            window-lent = leb-true (s .dimensions) (length (m .lastKnownShingle)) (l2 .0);
-            counts-lent = leb-true (s .capacity) (length (m .referenceCount)) (l3 .0);
-            starts-lent = leb-true (s .capacity) (length (m .indexStarts)) (l5 .0);
-            ends-lent = leb-true (s .capacity) (length (m .indexEnds)) (l6 .0);
-          };
+          lent = l .points-lent;
           table-within = table;
           rows = record {
             floats-lent = floats;
@@ -194,7 +167,9 @@ module _ {E : Type 0} where
         let free = s .«start_free_region» in
         and-make _ _ (in-bounds-make (s .dimensions) (s .«shingle_size») (s .capacity) (w .bounds))
         (and-make _ _ (w .rotation)
-        (and-make _ _ (lent-make (s .«store_labels») (s .dimensions) (s .capacity) p (r .floats-lent) (r .places-lent) (w .lent) (w .labels))
+        (and-make _ _
+        (lent-make (s .capacity) m (s .dimensions) (s .«store_labels»)
+        (record { floats-lent = r .floats-lent; places-lent = r .places-lent; points-lent = w .lent; labels-lent = λ on. labels-lent-of (s .capacity) p (w .labels on) }))
         (and-make _ _ (le-leb n (s .capacity) (w .table-within))
         (and-make _ _ (le-leb (s .«store_length») (s .capacity * s .dimensions) (r .store-within))
         (and-make _ _

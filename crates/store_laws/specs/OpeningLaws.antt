@@ -1,0 +1,203 @@
+-- Opening: which shapes over which memory are accepted, what a refused opening gives, and that an accepted one is well-formed.
+use Prim.Native.Nat.{ℕ, _+_, _*_, _-_, _/_, _≤_, _<_}
+use native.Mathlib.Nat.{dvd-zero, mul-le-mul-right}
+use native.Mathlib.Omega.{arith}
+use mathlib.Core.Bool.{Bool, true, false, cond, _&&_}
+use mathlib.Core.List.{List, _++_}
+use mathlib.Core.Logic.{inl}
+use mathlib.Core.Path.{_≡_, refl, sym, _∙_}
+use lib.ListN.{length, getD, take, drop, replicate, set, length-append, length-drop, length-replicate, length-set, List·getD-append, getD-replicate}
+use lib.Dec.{eqb}
+use borrow.Author.Tests.{eq-eqb}
+use Rattle.terms.specs.Below.{both, and-make}
+use Rattle.interval_store_manager.specs.Calls.{Decided, go, refuse, manager}
+use Rattle.placement.specs.Places.{Live}
+use Rattle.labels.specs.Counted.{counted}
+use Rattle.labels.specs.Labels.{Labels}
+use Rattle.labels.specs.Opening.{labelsOpened, table-opened, opened-well}
+use Rattle.labels.specs.Sound.{Sound as LabelsSound}
+use Rattle.store_definitions.specs.declared.Shape.{Shape}
+use Rattle.store_definitions.specs.Memory.{Memory, PointStore}
+use Rattle.store_definitions.specs.Bounds.{boundsHold, startAllowed, rotationAllowed, lentEnough}
+use Rattle.store_definitions.specs.Parts.{Rows, labelHalf, withLabels}
+use Rattle.store_definitions.specs.Opening.{openDecided, freshRecord, filledFirst, openedMemory, opened, OpenOutcome, opens, refuses, openCarriedOut, openSpec}
+use Rattle.store_definitions.specs.WellFormed.{classTable, wellFormed}
+use Rattle.store_laws.specs.BoundsLaws.{InBounds, in-bounds, in-bounds-make, shaped, start-allowed, start-allowed-make}
+use Rattle.store_laws.specs.LentLaws.{PointsLent, LabelsLent, Lent, lent, lent-make}
+use Rattle.store_laws.specs.PlacesLaws.{live-below, live-placed}
+use Rattle.store_laws.specs.Sound.{RowsSound, Sound, sound-make}
+use Rattle.store_laws.specs.Lengths.{by-cases}
+use Rattle.store_laws.specs.DecisionLaws.{no-go}
+
+-- what an accepted opening rests on
+pub record Openable {E : Type 0} (h : Shape) (m : Memory E) : Type 0 where
+  pub bounds : InBounds (h .dimensions) (h .«shingle_size») (h .capacity)
+  pub start-least : 1 ≤ h .«initial_capacity»
+  pub start-most : h .«initial_capacity» ≤ h .capacity
+  pub enough : Lent (h .dimensions) (h .capacity) (h .«store_labels») m
+
+-- the first n entries made x
+module _ {X : Type 0} (n : ℕ) (x : X) (xs : List X) where
+  filled-length : n ≤ length xs → length (filledFirst n x xs) ≡ length xs
+  filled-length h = simp (length-append, length-replicate, length-drop) (omega arith)
+
+  filled-at : (i : ℕ) (d : X) → i < n → getD (filledFirst n x xs) i d ≡ x
+  filled-at i d l = List·getD-append (replicate n x) (drop n xs) d i (rw (length-replicate n x) l) ∙ getD-replicate n i x d l
+
+open-go : (a b : Bool) → cond a (cond b go (refuse 1)) (refuse 2) ≡ go → (a ≡ true) × (b ≡ true)
+open-go true true e = (refl, refl)
+open-go true false e = no-go e
+open-go false b e = no-go e
+
+module _ {E : Type 0} (h : Shape) (m : Memory E) where
+  abbrev shapeHolds : Bool
+  shapeHolds = boundsHold (h .dimensions) (h .«shingle_size») (h .capacity) && startAllowed (h .«initial_capacity») (h .capacity)
+
+  abbrev memoryHolds : Bool
+  memoryHolds = lentEnough (h .dimensions) (h .capacity) (h .«store_labels») m
+
+  -- an opening goes on exactly where the shape is in the bounds and the memory is long enough, whatever the flags
+  pub open-accepts : Openable h m → openDecided h m ≡ go
+  unfolding openDecided
+  open-accepts o =
+      rw (
+        in-bounds-make (h .dimensions) (h .«shingle_size») (h .capacity) (o .bounds),
+        start-allowed-make (h .«initial_capacity») (h .capacity) (o .start-least) (o .start-most),
+        lent-make (h .capacity) m (h .dimensions) (h .«store_labels») (o .enough),
+      )
+
+  pub open-accepted : openDecided h m ≡ go → Openable h m
+  unfolding openDecided
+  open-accepted e =
+      let p = open-go shapeHolds memoryHolds e in
+      let q = both (boundsHold (h .dimensions) (h .«shingle_size») (h .capacity)) (startAllowed (h .«initial_capacity») (h .capacity)) (p .0) in
+      let t = start-allowed (h .«initial_capacity») (h .capacity) (q .1) in
+      record {
+        bounds = in-bounds (h .dimensions) (h .«shingle_size») (h .capacity) (q .0);
+        start-least = t .0;
+        start-most = t .1;
+        enough = lent (h .capacity) m (h .dimensions) (h .«store_labels») (p .1);
+      }
+
+  -- 2 exactly outside the bounds, 1 exactly in them over memory too short
+  pub open-outside : shapeHolds ≡ false → openDecided h m ≡ refuse 2
+  unfolding openDecided
+  open-outside e = rw e
+
+  pub open-short : shapeHolds ≡ true → memoryHolds ≡ false → openDecided h m ≡ refuse 1
+  unfolding openDecided
+  open-short e f = rw (e, f)
+
+  module _ (zeroElement : E) where
+    -- a refused opening leaves the memory as it was
+    pub open-refused : (n : ℕ) (after : Memory E) → openSpec zeroElement h m ≡ refuses n after → after ≡ m
+    unfolding openSpec
+    open-refused n after e = split (openDecided h m) e
+      where
+        split : (d : Decided) → openCarriedOut zeroElement d h m ≡ refuses n after → after ≡ m
+        split go q = absurd (let z : _≡_ {A = ℕ} 0 1 = cc in omega arith)
+        split (refuse k) q = cc
+
+    pub open-opens : Openable h m → openSpec zeroElement h m ≡ opens (opened zeroElement h m)
+    unfolding openSpec
+    open-opens o = rw (open-accepts o)
+
+    module _ (o : Openable h m) where
+      abbrev dims : ℕ
+      dims = h .dimensions
+
+      abbrev start : ℕ
+      start = h .«initial_capacity»
+
+      abbrev fresh : PointStore E
+      fresh = record { header = freshRecord h; memory = openedMemory zeroElement h m }
+
+      abbrev q : PointsLent dims (h .capacity) m
+      q = o .enough .points-lent
+
+      abbrev places : List ℕ
+      places = filledFirst start 65535 (m .location)
+
+      abbrev rows : Rows E
+      rows = record { elements = filledFirst (start * dims) zeroElement (m .store); location = places; free = 0; storeLength = start * dims }
+
+      store-most : start * dims ≤ h .capacity * dims
+      store-most = mul-le-mul-right dims (o .start-most)
+
+      places-length : length places ≡ length (m .location)
+      places-length = filled-length start 65535 (m .location) (omega (arith, o .start-most, o .enough .places-lent))
+
+      nothing-lives : (i : ℕ) → Live (take start places) i → ⊥
+      nothing-lives i l =
+          let g : start ≤ length places = omega (arith, places-length, o .start-most, o .enough .places-lent) in
+          live-placed start places g i l (filled-at start 65535 (m .location) i 65535 (live-below start places g i l))
+
+      rows-opened : RowsSound dims (dims / h .«shingle_size») (h .capacity) start rows
+      rows-opened =
+          let same = filled-length (start * dims) zeroElement (m .store) (omega (arith, store-most, o .enough .floats-lent)) in
+          record {
+            floats-lent = rw same (o .enough .floats-lent);
+            places-lent = rw places-length (o .enough .places-lent);
+            store-within = store-most;
+            free-whole = dvd-zero (dims / h .«shingle_size»);
+            free-started = inl refl;
+            free-inside = omega arith;
+            well-placed = record {
+              shaped = shaped dims (h .«shingle_size») (h .capacity) (o .bounds);
+              small = omega (arith, o .bounds .dims-most);
+              inside = omega arith;
+              ends = λ i l. absurd (nothing-lives i l);
+            };
+            distinct-places = λ i j l k e. absurd (nothing-lives i l);
+          }
+
+      -- whatever the label half, if it is sound where labels are on
+      opened-with : (l : Labels) → (h .«store_labels» ≡ true → LabelsSound classTable (h .capacity) l) → Sound (withLabels l fresh)
+      unfolding openedMemory rotationAllowed
+      opened-with l f =
+          record {
+            bounds = o .bounds;
+            rotation = refl;
+            lent = record {
+              window-lent = rw (filled-length dims zeroElement (m .lastKnownShingle) (q .window-lent)) (q .window-lent);
+              counts-lent = rw (filled-length start 0 (m .referenceCount) (omega (arith, o .start-most, q .counts-lent))) (q .counts-lent);
+              starts-lent = rw (length-set (m .indexStarts) 0 0) (q .starts-lent);
+              ends-lent = rw (length-set (m .indexEnds) 0 (start - 1)) (q .ends-lent);
+            };
+            table-within = o .start-most;
+            rows = rows-opened;
+            points =
+                table-opened start (o .start-least) (omega (arith, o .start-most, o .bounds .capacity-most))
+                (counted (manager start 1) (m .referenceCount) (m .indexStarts) (m .indexEnds))
+                (record { counts = omega (arith, o .start-most, q .counts-lent); starts = omega (arith, o .start-most, q .starts-lent); ends = omega (arith, o .start-most, q .ends-lent) });
+            empty-is = λ i l.
+                eq-eqb (getD (filledFirst start 0 (m .referenceCount)) i 0) 0 (filled-at start 0 (m .referenceCount) i 0 l)
+                ∙ sym (eq-eqb (getD places i 65535) 65535 (filled-at start 65535 (m .location) i 65535 l));
+            labels = f;
+          }
+
+      labels-opened : LabelsLent (h .capacity) m → LabelsSound classTable (h .capacity) (labelsOpened (h .capacity) (labelHalf fresh))
+      unfolding openedMemory
+      labels-opened l =
+          opened-well (h .capacity) (o .bounds .capacity-least) (o .bounds .capacity-most) classTable (labelHalf fresh) (l .codes-lent) (l .slots-lent)
+          (record { counts = l .label-counts-lent; starts = l .label-starts-lent; ends = l .label-ends-lent })
+          (l .classes-lent)
+          (record { counts = l .slot-counts-lent; starts = l .slot-starts-lent; ends = l .slot-ends-lent })
+
+      pub opened-sound : Sound (opened zeroElement h m)
+      unfolding opened
+      opened-sound =
+          by-cases Sound (h .«store_labels») (withLabels (labelsOpened (h .capacity) (labelHalf fresh)) fresh) fresh
+          (λ on. opened-with (labelsOpened (h .capacity) (labelHalf fresh)) (λ _. labels-opened (o .enough .labels-lent on)))
+          (λ off. opened-with (labelHalf fresh) (λ on. absurd (let t : true ≡ false = sym on ∙ off in let z : _≡_ {A = ℕ} 0 1 = cc in omega arith)))
+
+    -- every accepted opening is well-formed
+    pub opening-well-formed : (p : PointStore E) → openSpec zeroElement h m ≡ opens p → wellFormed p ≡ true
+    unfolding openSpec
+    opening-well-formed p e = split (openDecided h m) refl e
+      where
+        split : (d : Decided) → openDecided h m ≡ d → openCarriedOut zeroElement d h m ≡ opens p → wellFormed p ≡ true
+        split go f q =
+            let is : p ≡ opened zeroElement h m = cc in
+            rw is (sound-make (opened zeroElement h m) (opened-sound (open-accepted f)))
+        split (refuse n) f q = absurd (let z : _≡_ {A = ℕ} 0 1 = cc in omega arith)
