@@ -9,8 +9,8 @@ use Rattle.placement.specs.AlignmentLaws.{wrapping-sub}
 use Rattle.placement.specs.InPlace.{copiedWithin, filled}
 use Rattle.placement.specs.Scanned.{advanced}
 use Rattle.placement_rows.specs.OnePass.{scan}
-use Rattle.placement_rows.specs.declared.compaction.Progress.{Progress}
-use Rattle.placement_rows.specs.declared.compaction.Run.{Run}
+use Rattle.placement_rows.specs.declared.one_pass.Progress.{Progress}
+use Rattle.placement_rows.specs.declared.one_pass.Run.{Run}
 
 -- d is the wrapping difference, and s its wrapping sum with the start
 pub wrapped : (dims free start d s : ℕ) → dims < 2 ^ 64 → free < 2 ^ 64 → d < 2 ^ 64 → (d + free) % 2 ^ 64 ≡ dims → s ≡ (d + start) % 2 ^ 64 → s % dims ≡ alignment dims free start

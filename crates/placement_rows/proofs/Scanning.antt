@@ -14,16 +14,16 @@ use Rattle.placement.specs.Compaction.{compacted, liveBelow}
 use Rattle.placement.specs.Places.{Live, WellPlaced}
 use Rattle.placement.specs.ProgressLaws.{Sound}
 use Rattle.placement.specs.Scan.{well-sound}
-use Rattle.placement.specs.Scanned.{Scanned, scanned, shown, advanced, Bounded, scanned-first, scanned-dead, scanned-bounded, scanned-last, scanned-joins, scanned-starts, met-inside, joins-within, starts-behind}
+use Rattle.placement.specs.Scanned.{ScanState, scanned, shown, advanced, Bounded, scanned-first, scanned-dead, scanned-bounded, scanned-last, scanned-joins, scanned-starts, met-inside, joins-within, starts-behind}
 use Rattle.placement.specs.Steps.{steps}
 use Rattle.placement_rows.specs.Compactable.{layout}
 use Rattle.placement_rows.specs.IndexTable.{found-none, found-live, found-at}
 use Rattle.placement_rows.specs.OnePass.{scan, runOf, met, Copyable, Scannable}
-use Rattle.placement_rows.specs.declared.compaction.Progress.{Progress}
-use Rattle.placement_rows.specs.declared.compaction.Run.{Run}
+use Rattle.placement_rows.specs.declared.one_pass.Progress.{Progress}
+use Rattle.placement_rows.specs.declared.one_pass.Run.{Run}
 
 module _ (dims base : ℕ) (rotation : Bool) (elements location table : List ℕ) (free : ℕ) (pre : Scannable dims base location table free (length elements)) where
-  abbrev at : ℕ → Scanned ℕ
+  abbrev at : ℕ → ScanState ℕ
   at q = scanned 0 dims base rotation elements location q
 
   abbrev well : WellPlaced dims base location free (length elements)
@@ -35,15 +35,15 @@ module _ (dims base : ℕ) (rotation : Bool) (elements location table : List ℕ
 
   pub scan-last : (e l : List ℕ) (p : Progress) → scan e l p ≡ at (free / base) → layout e l (p .free) ≡ compacted 0 dims base rotation elements location free
   scan-last e l p h =
-      ap (λ (t : Scanned ℕ). layout (t .elements) (t .location) (t .free)) h ∙ sym (scanned-last 0 dims base rotation elements location free well)
+      ap (λ (t : ScanState ℕ). layout (t .elements) (t .location) (t .free)) h ∙ sym (scanned-last 0 dims base rotation elements location free well)
 
   module _ (q : ℕ) (e l : List ℕ) (p : Progress) (h : scan e l p ≡ at q) where
     -- no slice changes its length
     pub elements-kept : q ≤ free / base → length e ≡ length elements
-    elements-kept k = ap (λ (t : Scanned ℕ). length (t .elements)) h ∙ scanned-bounded 0 dims base rotation elements location free well q k .elements-kept
+    elements-kept k = ap (λ (t : ScanState ℕ). length (t .elements)) h ∙ scanned-bounded 0 dims base rotation elements location free well q k .elements-kept
 
     pub indices-kept : q ≤ free / base → length l ≡ length location
-    indices-kept k = ap (λ (t : Scanned ℕ). length (t .location)) h ∙ scanned-bounded 0 dims base rotation elements location free well q k .indices-kept
+    indices-kept k = ap (λ (t : ScanState ℕ). length (t .location)) h ∙ scanned-bounded 0 dims base rotation elements location free well q k .indices-kept
 
     module _ (inside : q < free / base) where
       listed : q < length table
@@ -110,7 +110,7 @@ module _ (dims base : ℕ) (rotation : Bool) (elements location table : List ℕ
 
         pub can-take : (0 < dims) × Copyable dims base (runOf dims base rotation q (p .free) (p .read)) (q * base + dims) i (p .free) (length e) (length l)
         can-take =
-            (well .shaped .some, subst (λ (t : Scanned ℕ). Copyable dims base (runOf dims base rotation q (t .free) (t .read)) (q * base + dims) i (t .free) (length (t .elements)) (length (t .location))) (sym h) copyable)
+            (well .shaped .some, subst (λ (t : ScanState ℕ). Copyable dims base (runOf dims base rotation q (t .free) (t .read)) (q * base + dims) i (t .free) (length (t .elements)) (length (t .location))) (sym h) copyable)
 
         met-next : met dims base rotation q i (at q) ≡ at (suc q)
         unfolding met runOf

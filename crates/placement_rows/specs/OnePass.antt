@@ -6,13 +6,13 @@ use Prim.Native.Nat.{ℕ, _+_, _*_, _-_, _/_, _≤_, _<_}
 use lib.Dec.{leb}
 use lib.ListN.{length, replicate}
 use Rattle.placement.specs.Alignment.{zerosBefore}
-use Rattle.placement.specs.Scanned.{Scanned, advanced}
+use Rattle.placement.specs.Scanned.{ScanState, advanced}
 use Rattle.placement_rows.specs.Compactable.{Compactable}
 use Rattle.placement_rows.specs.IndexTable.{Indexed}
-use Rattle.placement_rows.specs.declared.compaction.Progress.{Progress}
-use Rattle.placement_rows.specs.declared.compaction.Run.{Run}
+use Rattle.placement_rows.specs.declared.one_pass.Progress.{Progress}
+use Rattle.placement_rows.specs.declared.one_pass.Run.{Run}
 
-abbrev pub scan : List ℕ → List ℕ → Progress → Scanned ℕ
+abbrev pub scan : List ℕ → List ℕ → Progress → ScanState ℕ
 scan elements location p = record { elements = elements; location = location; free = p .free; read = p .read }
 
 -- a point that starts at or before the end of what was read is read on from there; before any other come the zeros
@@ -33,7 +33,7 @@ pub record Copyable (dims base : ℕ) (run : Run) (end i free words indices : �
   pub listed : i < indices
 
 -- the point of index i, at its place, is met
-unfoldable pub met : (dims base : ℕ) → Bool → (place i : ℕ) → Scanned ℕ → Scanned ℕ
+unfoldable pub met : (dims base : ℕ) → Bool → (place i : ℕ) → ScanState ℕ → ScanState ℕ
 met dims base rotation place i t =
     let run : Run = runOf dims base rotation place (t .free) (t .read) in
     advanced 0 dims base (run .zeros) (run .from) (place * base + dims) i t

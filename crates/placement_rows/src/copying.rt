@@ -2,12 +2,12 @@
 use super::words::copy_from;
 use terms::FloatBits;
 ghost use mathlib.Core.Path.{_≡_};
-ghost use Prim.Native.Nat.{_+_, _*_, _≤_, _<_};
+ghost use Prim.Native.Nat.{_+_, _*_, _^_, _≤_, _<_};
 ghost use lib.ListN.{length};
 ghost use Rattle.placement.specs.Copying.{turn, turned, copied};
 
 fn turned_by(rotation: bool, dimensions: usize, base: usize, place: usize) -> usize
-    requires { ⌜ (0 < dimensions) × (place * base < 18446744073709551616) ⌝ }
+    requires { ⌜ (0 < dimensions) × (place * base < 2 ^ 64) ⌝ }
     ensures { λ r. ⌜ r ≡ turn rotation dimensions base place ⌝ }
 {
     if rotation {

@@ -13,7 +13,7 @@ pub struct LaidRow {
     pub start_free_region: usize,
 }
 
-// `joined` is what `ready_to_copy` says: then only the row's last base words are written.
+// `joined` is what `row_joins` says: then only the row's last base words are written.
 pub fn lay(
     store: &mut [FloatBits],
     row: &[FloatBits],

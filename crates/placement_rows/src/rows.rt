@@ -42,7 +42,7 @@ pub fn head<'a>(
     &point[..extra]
 }
 
-// The window drops its first entries and gains the point. Only its first dimensions entries are the window.
+// The window drops its first entries and gains the point. Only the first `dimensions` entries are the window.
 pub fn move_window(window: &mut [FloatBits], point: &[FloatBits], dimensions: usize)
     requires { ⌜ (length (now point) ≤ dimensions) × (dimensions ≤ length (now window)) ⌝ }
     ensures { λ _. ⌜ now (window .exit) ≡ movedWindow (length (now (point .entry))) (take dimensions (now (window .entry))) (now (point .entry)) ++ drop dimensions (now (window .entry)) ⌝ }

@@ -9,13 +9,14 @@ index-places-requires c κs =
     let start = c .before .before .before .before .before in
     let a = start .args in
     let pre = start .pre in
-    ((pre .compactable .few, pre .small), (pre .clear, places-inside (a .dimensions) (a .base) (a .location .now) (a .start-free-region) (length (a .store .now)) (a .index-at .now) pre))
+    ((pre .compactable .few, pre .small), (pre .clear, places-inside (a .shape .dimensions) (a .shape .base) (a .location .now) (a .start-free-region) (length (a .store .now)) (a .index-at .now) pre))
 
 scan-places-requires : tie.Need-scan-places-requires
 scan-places-requires c κs =
     let start = c .before .before .before .before .before .before .before .before .before .before .before in
     let a = start .args in
-    table-filled (a .dimensions) (a .base) (a .location .now) (a .start-free-region) (length (a .store .now)) (a .index-at .now) (start .pre) (c .before .before .before .before .before .index-places .last .1 .0) (c .before .before .before .before .before .index-places .kept .1 .0) (c .before .before .before .before .before .index-places .ensures)
+    let entered = c .before .before .before .before .before .index-places in
+    table-filled (a .shape .dimensions) (a .shape .base) (a .location .now) (a .start-free-region) (length (a .store .now)) (a .index-at .now) (start .pre) (entered .last .1 .0) (entered .kept .1 .0) (entered .ensures)
 
 same-length : tie.Need-same-length
 same-length c = c .before .before .before .before .before .before .before .before .before .before .index-places .kept .1 .0

@@ -3,8 +3,8 @@ use Rattle.placement.specs.Alignment.{zerosBefore}
 use Rattle.placement_rows.proofs.OneRun.{wrapped}
 use borrow.Author.Needs.{needs}
 use native.Mathlib.Omega.{arith}
-use Rattle.placement_rows.proofs.compaction.zeros_before.Statement.{statement}
-use Rattle.placement_rows.proofs.compaction.zeros_before.Tie as tie
+use Rattle.placement_rows.proofs.one_pass.zeros_before.Statement.{statement}
+use Rattle.placement_rows.proofs.one_pass.zeros_before.Tie as tie
 
 wrapping-sub-usize-requires : tie.Need-wrapping-sub-usize-requires
 wrapping-sub-usize-requires c κs = search needs
@@ -28,4 +28,9 @@ returns-2 c = rw (c .if1 .left)
 pub zeros-before-spec : {M : Type 1} → statement M
 zeros-before-spec =
     tie.close
-    (tie.spec wrapping-sub-usize-requires wrapping-add-usize-requires rem-result returns returns-2)
+    (tie.spec
+    wrapping-sub-usize-requires
+    wrapping-add-usize-requires
+    rem-result
+    returns
+    returns-2)

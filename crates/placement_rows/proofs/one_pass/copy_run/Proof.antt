@@ -3,8 +3,8 @@ use native.Mathlib.Nat.{lt-of-le-of-lt, div-le-self}
 use Rattle.placement_rows.proofs.OneRun.{run-copied}
 use borrow.Author.Needs.{needs}
 use native.Mathlib.Omega.{arith}
-use Rattle.placement_rows.proofs.compaction.copy_run.Statement.{statement}
-use Rattle.placement_rows.proofs.compaction.copy_run.Tie as tie
+use Rattle.placement_rows.proofs.one_pass.copy_run.Statement.{statement}
+use Rattle.placement_rows.proofs.one_pass.copy_run.Tie as tie
 
 add-at : tie.Need-add-at
 add-at c = search needs
@@ -31,7 +31,7 @@ div-location : tie.Need-div-location
 div-location c = search needs
 
 cast-location : tie.Need-cast-location
-cast-location c = record { fits = lt-of-le-of-lt (div-le-self _ _) (omega (arith, c .before .before .before .before .before .before .before .before .before .before .before .before .pre)) }
+cast-location c = record { fits = lt-of-le-of-lt (div-le-self _ _) (omega (arith, c .before .before .before .before .before .before .before .before .before .before .before .before .before .before .pre)) }
 
 mul-location : tie.Need-mul-location
 mul-location c = search needs
@@ -47,8 +47,8 @@ same-length-2 c = search needs
 
 returns : tie.Need-returns
 returns c =
-    let a = c .before .before .before .before .before .before .before .before .before .before .before .before .args in
-    run-copied (a .dimensions) (a .base) (a .run) (a .end) (a .index) (a .done) (a .store .now) (a .location .now) (c .before .before .before .before .before .before .fill .last .0) (c .before .before .copy-down .last .0) (c .before .before .before .before .before .before .fill .ensures) (c .before .before .copy-down .ensures)
+    let a = c .before .before .before .before .before .before .before .before .before .before .before .before .before .before .args in
+    run-copied (a .shape .dimensions) (a .shape .base) (a .run) (a .end) (a .index) (a .done) (a .store .now) (a .location .now) (c .before .before .before .before .before .before .before .before .fill .last .0) (c .before .before .before .before .copy-down .last .0) (c .before .before .before .before .before .before .before .before .fill .ensures) (c .before .before .before .before .copy-down .ensures)
 
 pub copy-run-spec : {M : Type 1} → statement M
 copy-run-spec =

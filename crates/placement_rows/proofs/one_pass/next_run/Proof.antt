@@ -3,8 +3,8 @@ use Prim.Native.Nat.{_*_}
 use borrow.Author.Tests.{le-leb, lt-leb}
 use Rattle.placement_rows.specs.OnePass.{runOf}
 use borrow.Author.Needs.{needs}
-use Rattle.placement_rows.proofs.compaction.next_run.Statement.{statement}
-use Rattle.placement_rows.proofs.compaction.next_run.Tie as tie
+use Rattle.placement_rows.proofs.one_pass.next_run.Statement.{statement}
+use Rattle.placement_rows.proofs.one_pass.next_run.Tie as tie
 
 mul-start : tie.Need-mul-start
 mul-start c = search needs
@@ -19,8 +19,14 @@ zeros-before-requires c κs = search needs
 returns-2 : tie.Need-returns-2
 unfolding runOf
 returns-2 c =
-    let a = c .before .before .before .args in
-    rw (lt-leb _ _ (c .before .if1 .left)) (λ k. record { zeros = c .zeros-before .ensures k; from = a .place * a .base })
+    let a = c .before .before .before .before .args in
+    rw (lt-leb _ _ (c .before .if1 .left)) (λ k. record { zeros = c .zeros-before .ensures k; from = a .place * a .shape .base })
 
 pub next-run-spec : {M : Type 1} → statement M
-next-run-spec = tie.close (tie.spec mul-start returns zeros-before-requires returns-2)
+next-run-spec =
+    tie.close
+    (tie.spec
+    mul-start
+    returns
+    zeros-before-requires
+    returns-2)
