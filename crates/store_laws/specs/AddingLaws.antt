@@ -181,7 +181,7 @@ module _ {E : Type 0} (p : PointStore E) (w : Sound p) (n : ℕ) (t : Counted) (
       r empty-after
 
 -- a table that is empty and not full can grow
-can-grow : (s : Store) → tableLength s ≤ s .capacity → tableFull s ≡ false → s .«index_manager» .last_in_use ≡ 0 → tableLength s < grown (tableLength s) 0 (s .capacity)
+pub can-grow : (s : Store) → tableLength s ≤ s .capacity → tableFull s ≡ false → s .«index_manager» .last_in_use ≡ 0 → tableLength s < grown (tableLength s) 0 (s .capacity)
 unfolding tableFull
 can-grow s h f e =
     let n : ℕ = tableLength s in
