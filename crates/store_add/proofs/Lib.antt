@@ -1,0 +1,3 @@
+mod RoomLaws
+mod TakeLaws
+mod ActLaws

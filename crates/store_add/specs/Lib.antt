@@ -1,0 +1,4 @@
+pub mod Deciding
+pub mod Pieces
+pub mod Requires
+pub mod Answering

@@ -1,0 +1,143 @@
+// Document 01's add: the check, the decision, and then what was decided, each table written by one function.
+ghost use mathlib.Core.Bool.{true};
+ghost use mathlib.Core.Path.{_≡_};
+ghost use Rattle.float_bits.specs.Words.{wordsEqual};
+ghost use Rattle.store_definitions.specs.Adding.{addSpec};
+ghost use Rattle.store_definitions.specs.Answers.{addedMeans, outcome};
+ghost use Rattle.store_definitions.specs.Lent.{held, entered, left};
+ghost use Rattle.store_definitions.specs.Memory.{pointStore};
+ghost use Rattle.store_definitions.specs.WellFormed.{wellFormed};
+
+mod act;
+mod decide;
+mod lay;
+mod room;
+mod take;
+
+use act::act;
+use decide::add_decision;
+use decide::checked_decision;
+use store_definitions::AddResult;
+use store_definitions::Store;
+use terms::FloatBits;
+use terms::Refusal;
+
+// What is decided of an add before anything is written.
+pub enum AddDecision {
+    Keep,
+    Wait,
+    Refuse(Refusal),
+}
+
+pub fn add(
+    s: Store,
+    store: &mut [FloatBits],
+    last_known_shingle: &mut [FloatBits],
+    reference_count: &mut [u16],
+    location: &mut [u16],
+    index_starts: &mut [u16],
+    index_ends: &mut [u16],
+    labels: &mut [u8],
+    label_attributes: &mut [u16],
+    label_count: &mut [u16],
+    label_starts: &mut [u16],
+    label_ends: &[u16],
+    attributes: &mut [u8],
+    attribute_count: &mut [u32],
+    attribute_starts: &mut [u16],
+    attribute_ends: &[u16],
+    point: &[FloatBits],
+    label: usize,
+) -> AddResult
+    ensures { λ r. ⌜ outcome (addedMeans (r .answer)) (pointStore (r .store) (left store «last_known_shingle» «reference_count» location «index_starts» «index_ends» labels «label_attributes» «label_count» «label_starts» «label_ends» attributes «attribute_count» «attribute_starts» «attribute_ends»)) ≡ addSpec wordsEqual 0 (pointStore s (entered store «last_known_shingle» «reference_count» location «index_starts» «index_ends» labels «label_attributes» «label_count» «label_starts» «label_ends» attributes «attribute_count» «attribute_starts» «attribute_ends»)) (now (point .entry)) label ⌝ }
+{
+    let d = checked_decision(
+        s,
+        store.len(),
+        last_known_shingle.len(),
+        reference_count,
+        location,
+        index_starts,
+        index_ends,
+        labels,
+        label_attributes,
+        label_count,
+        label_starts,
+        label_ends,
+        attributes,
+        attribute_count,
+        attribute_starts,
+        attribute_ends,
+        point.len(),
+        label,
+    );
+    act(
+        d,
+        s,
+        store,
+        last_known_shingle,
+        reference_count,
+        location,
+        index_starts,
+        index_ends,
+        labels,
+        label_attributes,
+        label_count,
+        label_starts,
+        label_ends,
+        attributes,
+        attribute_count,
+        attribute_starts,
+        attribute_ends,
+        point,
+        label,
+    )
+}
+
+// For callers that have checked.
+pub fn add_unchecked(
+    s: Store,
+    store: &mut [FloatBits],
+    last_known_shingle: &mut [FloatBits],
+    reference_count: &mut [u16],
+    location: &mut [u16],
+    index_starts: &mut [u16],
+    index_ends: &mut [u16],
+    labels: &mut [u8],
+    label_attributes: &mut [u16],
+    label_count: &mut [u16],
+    label_starts: &mut [u16],
+    label_ends: &[u16],
+    attributes: &mut [u8],
+    attribute_count: &mut [u32],
+    attribute_starts: &mut [u16],
+    attribute_ends: &[u16],
+    point: &[FloatBits],
+    label: usize,
+) -> AddResult
+    requires { ⌜ wellFormed (pointStore s (held store «last_known_shingle» «reference_count» location «index_starts» «index_ends» labels «label_attributes» «label_count» «label_starts» «label_ends» attributes «attribute_count» «attribute_starts» «attribute_ends»)) ≡ true ⌝ }
+    ensures { λ r. ⌜ outcome (addedMeans (r .answer)) (pointStore (r .store) (left store «last_known_shingle» «reference_count» location «index_starts» «index_ends» labels «label_attributes» «label_count» «label_starts» «label_ends» attributes «attribute_count» «attribute_starts» «attribute_ends»)) ≡ addSpec wordsEqual 0 (pointStore s (entered store «last_known_shingle» «reference_count» location «index_starts» «index_ends» labels «label_attributes» «label_count» «label_starts» «label_ends» attributes «attribute_count» «attribute_starts» «attribute_ends»)) (now (point .entry)) label ⌝ }
+{
+    let d = add_decision(s, point.len(), label);
+    act(
+        d,
+        s,
+        store,
+        last_known_shingle,
+        reference_count,
+        location,
+        index_starts,
+        index_ends,
+        labels,
+        label_attributes,
+        label_count,
+        label_starts,
+        label_ends,
+        attributes,
+        attribute_count,
+        attribute_starts,
+        attribute_ends,
+        point,
+        label,
+    )
+}
