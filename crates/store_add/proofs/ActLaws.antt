@@ -38,7 +38,8 @@ use Rattle.store_laws.specs.Sound.{Sound, sound}
 use Rattle.store_laws.specs.RowsLaws.{RowsOf}
 use Rattle.store_laws.specs.TableLaws.{Ready, as-it-is, grown-ready}
 use Rattle.store_laws.specs.DecisionLaws.{form-go}
-use Rattle.store_laws.specs.AddingLaws.{Accepted, Kept, waits-on, keeps-on, can-grow}
+use Rattle.store_laws.specs.AddDecisionLaws.{Accepted, Kept, waits-on, keeps-on}
+use Rattle.store_laws.specs.AddingLaws.{can-grow}
 use Rattle.store_check.specs.CheckLaws.{elementless, well-formed-lengths}
 use Rattle.store_add.specs.declared.AddDecision.{AddDecision}
 use Rattle.store_add.specs.declared.AddDecision.the-variants as atDecision

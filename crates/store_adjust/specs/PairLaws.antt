@@ -25,7 +25,7 @@ use Rattle.store_definitions.specs.Decisions.{andThen, refuseIf, live, touchDec
 use Rattle.store_definitions.specs.Counting.{Pairing, incTest, decTest, incremented, decremented, pairDecided, pairDone}
 use Rattle.store_definitions.specs.WellFormed.{wellFormed}
 use Rattle.store_laws.specs.Sound.{sound, sound-make}
-use Rattle.store_laws.specs.Lengths.{by-cases}
+use Rattle.store_laws.specs.Cases.{by-cases}
 use Rattle.store_laws.specs.CountingLaws.{inc-accepted, pair-accepted}
 use Rattle.store_laws.specs.DecisionLaws.{both-go, touch-go, inc-label-go}
 use Rattle.store_counts.specs.Tables.{countsAlone}
