@@ -131,9 +131,6 @@ module _ {E : Type 0} (p : PointStore E) where
       decided : (x : Decided) → decisionMeans d ≡ x → pairDecided p q ≡ x
       decided x f = sym (pair-test q) ∙ sym (test-alone q) ∙ sym e ∙ f
 
-      abbrev out : (x : Decided) → Outcome E
-      out x = cond (eqb (q .insertIndex) none) (outcome done p) (carriedOut x p (outcome done (pairDone p q)))
-
       pub pair-goes : d ≡ Go → pairDecided p q ≡ go
       pair-goes f = decided go (ap decisionMeans f)
 
