@@ -1,11 +1,11 @@
 -- A pair's dec is judged on the counts that its inc raised; since the inc's own counts were above 0 already, the counts before
 -- it decide alike. Then what a pair's parts come to.
-use Prim.Native.Nat.{ℕ, suc, _+_, _<_}
+use Prim.Native.Nat.{ℕ, _+_, _<_}
 use native.Mathlib.Omega.{arith}
 use native.Mathlib.Decide.{decLt}
 use mathlib.Core.Bool.{Bool, true, false, cond}
-use mathlib.Core.List.{List, [], _∷_}
-use mathlib.Core.Path.{_≡_, refl, sym, _∙_, ap, ap₂}
+use mathlib.Core.List.{List}
+use mathlib.Core.Path.{_≡_, refl, sym, _∙_, ap}
 use lib.ListN.{length, getD, set, List·getD-eq-default}
 use lib.Dec.{ltb, eqb}
 use borrow.Author.Tests.{eq-eqb, ne-eqb, lt-ltb}
@@ -21,7 +21,7 @@ use Rattle.labels.specs.Labels.{labelRaised}
 use Rattle.store_definitions.specs.Memory.{PointStore, pointStore}
 use Rattle.store_definitions.specs.Answers.{done, refused, Outcome, outcome}
 use Rattle.store_definitions.specs.Parts.{pointTable, labelHalf, withPoints, withLabels}
-use Rattle.store_definitions.specs.Decisions.{andThen, refuseIf, live, touchDecided, carriedOut}
+use Rattle.store_definitions.specs.Decisions.{andThen, live, touchDecided, carriedOut}
 use Rattle.store_definitions.specs.Counting.{Pairing, incTest, decTest, incremented, decremented, pairDecided, pairDone}
 use Rattle.store_definitions.specs.WellFormed.{wellFormed}
 use Rattle.store_laws.specs.Sound.{sound, sound-make}
@@ -29,7 +29,7 @@ use Rattle.store_laws.specs.Cases.{by-cases}
 use Rattle.store_laws.specs.CountingLaws.{inc-accepted, pair-accepted}
 use Rattle.store_laws.specs.DecisionLaws.{both-go, touch-go, inc-label-go}
 use Rattle.store_counts.specs.Tables.{countsAlone}
-use Rattle.store_adjust.specs.Pairs.{pairOf, pairTest, pairSpec}
+use Rattle.store_adjust.specs.Pairs.{pairTest, pairSpec}
 
 -- a count above 0 that rises leaves the same counts above 0
 still : (xs : List ℕ) (i j : ℕ) → 0 < getD xs i 0 → ltb 0 (getD (set xs i (getD xs i 0 + 1)) j 0) ≡ ltb 0 (getD xs j 0)
@@ -130,9 +130,6 @@ module _ {E : Type 0} (p : PointStore E) where
     module _ (n : q .insertIndex ≡ none → ⊥) (d : Decision) (e : decisionMeans d ≡ pairTest (pointStore (p .header) (countsAlone (p .memory .referenceCount) (p .memory .labelCount))) q) where
       decided : (x : Decided) → decisionMeans d ≡ x → pairDecided p q ≡ x
       decided x f = sym (pair-test q) ∙ sym (test-alone q) ∙ sym e ∙ f
-
-      abbrev out : (x : Decided) → Outcome E
-      out x = cond (eqb (q .insertIndex) none) (outcome done p) (carriedOut x p (outcome done (pairDone p q)))
 
       pub pair-goes : d ≡ Go → pairDecided p q ≡ go
       pair-goes f = decided go (ap decisionMeans f)

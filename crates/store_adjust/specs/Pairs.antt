@@ -6,7 +6,6 @@ use lib.ListN.{getD, replicate}
 use lib.Dec.{eqb}
 use Rattle.interval_store_manager.specs.Calls.{Decided, go}
 use Rattle.labels.specs.Decisions.{none}
-use Rattle.store_definitions.specs.declared.Store.{Store}
 use Rattle.store_definitions.specs.Memory.{Memory, PointStore}
 use Rattle.store_definitions.specs.Answers.{done, Outcome, outcome}
 use Rattle.store_definitions.specs.Decisions.{andThen, carriedOut}

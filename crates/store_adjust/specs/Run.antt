@@ -4,17 +4,16 @@ use native.Mathlib.Numerals.{add-one, add-one-le}
 use native.Mathlib.Omega.{arith}
 use mathlib.Core.Bool.{Bool, true, false, cond}
 use mathlib.Core.List.{List, [], _∷_}
-use mathlib.Core.Path.{_≡_, refl, sym, _∙_, ap, ap₂, subst}
+use mathlib.Core.Path.{_≡_, refl, sym, _∙_, ap, ap₂}
 use lib.ListN.{length, getD, drop, drop-of-length-le}
 use lib.Seq.{drop-cons}
 use lib.Dec.{eqb}
 use Rattle.interval_store_manager.specs.Calls.{Decided, go, refuse}
 use Rattle.labels.specs.Decisions.{none}
-use Rattle.store_definitions.specs.declared.Store.{Store}
-use Rattle.store_definitions.specs.Memory.{Memory, PointStore, pointStore}
-use Rattle.store_definitions.specs.Answers.{Answer, done, refused, refusedAfter, Outcome, outcome}
-use Rattle.store_definitions.specs.Decisions.{formDecided, carriedOut}
-use Rattle.store_definitions.specs.Counting.{Pairing, incTest, decTest, incremented, decremented, pairDecided, pairDone, pairCarriedOut, adjustFrom, adjustSpec}
+use Rattle.store_definitions.specs.Memory.{Memory, PointStore}
+use Rattle.store_definitions.specs.Answers.{done, refused, refusedAfter, Outcome, outcome}
+use Rattle.store_definitions.specs.Decisions.{carriedOut}
+use Rattle.store_definitions.specs.Counting.{Pairing, pairDecided, pairDone, pairCarriedOut, adjustFrom, adjustSpec}
 use Rattle.store_definitions.specs.WellFormed.{wellFormed}
 use Rattle.store_counts.specs.ReadingLaws.{ill, well}
 use Rattle.store_adjust.specs.Pairs.{pairing, pairings, pairSpec}

@@ -3,7 +3,7 @@ use Prim.Native.Nat.{ℕ, _+_, _≤_, _<_}
 use native.Mathlib.Omega.{arith}
 use mathlib.Core.Bool.{Bool, true, false, cond}
 use mathlib.Core.List.{List}
-use mathlib.Core.Path.{_≡_, refl, sym, _∙_, ap}
+use mathlib.Core.Path.{_≡_, sym, _∙_, ap}
 use lib.ListN.{length, getD, set}
 use lib.Dec.{eqb}
 use borrow.Author.Tests.{eq-eqb, ne-eqb, eqb-false}
@@ -11,19 +11,19 @@ use Rattle.terms.specs.declared.Refusal.{Refusal}
 use Rattle.terms.specs.Refusals.{number}
 use Rattle.interval_store_manager.specs.declared.Decision.{Decision}
 use Rattle.interval_store_manager.specs.declared.Decision.the-variants.{Go, Refuse}
-use Rattle.interval_store_manager.specs.Calls.{Decided, go, refuse, decisionMeans}
+use Rattle.interval_store_manager.specs.Calls.{go, decisionMeans}
 use Rattle.labels.specs.Counted.{Counted, counted, raised, lowered}
 use Rattle.labels.specs.Decisions.{incDecided, decDecided}
 use Rattle.labels.specs.Forms.{InUse}
 use Rattle.labels.specs.Labels.{Labels, labelsWell, labelRaised, labelLowered}
 use Rattle.labels.specs.Sound.{sound-make as labels-sound-make}
 use Rattle.store_definitions.specs.Memory.{PointStore, pointStore}
-use Rattle.store_definitions.specs.Answers.{done, refused, Outcome, outcome}
+use Rattle.store_definitions.specs.Answers.{done, refused, outcome}
 use Rattle.store_definitions.specs.Parts.{tableLength, pointTable, labelHalf, withPoints, withLabels}
-use Rattle.store_definitions.specs.Decisions.{andThen, refuseIf, formDecided, touchDecided, carriedOut}
+use Rattle.store_definitions.specs.Decisions.{refuseIf, touchDecided}
 use Rattle.store_definitions.specs.Counting.{incTest, decTest, incremented, placeAfterDec, decremented, incSpec, decSpec}
 use Rattle.store_definitions.specs.WellFormed.{classTable, wellFormed}
-use Rattle.store_laws.specs.Sound.{Sound, sound}
+use Rattle.store_laws.specs.Sound.{sound}
 use Rattle.store_laws.specs.DecisionLaws.{both-go, not-refused, touch-go, inc-label-go, dec-label-go}
 use Rattle.store_counts.specs.Tables.{countsAlone, emptied}
 use Rattle.store_counts.specs.TestLaws.{inc-test-alone, dec-test-alone}

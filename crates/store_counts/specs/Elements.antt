@@ -2,14 +2,13 @@
 use Prim.Native.Nat.{ℕ}
 use mathlib.Core.Bool.{Bool, true, false, cond}
 use mathlib.Core.List.{List}
-use mathlib.Core.Path.{_≡_, refl, sym, _∙_, ap, ap₂}
+use mathlib.Core.Path.{_≡_, refl, _∙_, ap, ap₂}
 use Rattle.interval_store_manager.specs.Calls.{Decided, go, refuse}
 use Rattle.store_definitions.specs.declared.Store.{Store}
 use Rattle.store_definitions.specs.Memory.{Memory, PointStore, pointStore}
 use Rattle.store_definitions.specs.Answers.{done, Outcome, outcome}
 use Rattle.store_definitions.specs.Parts.{pointTable, labelHalf, withPoints, withLabels}
 use Rattle.store_definitions.specs.Decisions.{andThen, formDecided, live, touchDecided, carriedOut}
-use Rattle.store_definitions.specs.WellFormed.{wellFormed}
 use Rattle.store_definitions.specs.Counting.{incTest, decTest, incremented, placeAfterDec, decremented, incSpec, decSpec}
 use Rattle.labels.specs.Counted.{raised, lowered}
 use Rattle.labels.specs.Labels.{labelRaised, labelLowered}

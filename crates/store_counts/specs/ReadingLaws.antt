@@ -1,19 +1,18 @@
 -- The ways out of the readings.
-use Prim.Native.Nat.{ℕ, zero, suc, _+_}
-use mathlib.Core.Bool.{Bool, true, false, cond, not}
-use mathlib.Core.List.{List}
-use mathlib.Core.Path.{_≡_, refl, sym, _∙_, ap}
+use Prim.Native.Nat.{ℕ, zero, suc}
+use mathlib.Core.Bool.{true, false, not}
+use mathlib.Core.Path.{_≡_, refl, ap}
 use lib.ListN.{getD}
 use lib.Dec.{ltb, eqb}
 use native.Mathlib.Omega.{arith}
 use borrow.Author.Tests.{lt-ltb, ne-eqb}
-use Rattle.terms.specs.Below.{countBelow, sumBelow, one, sum-same}
-use Rattle.interval_store_manager.specs.Calls.{Decided, go, refuse}
+use Rattle.terms.specs.Below.{countBelow, one, sum-same}
+use Rattle.interval_store_manager.specs.Calls.{go, refuse}
 use Rattle.labels.specs.Counted.{liveNumber}
 use Rattle.store_definitions.specs.Memory.{PointStore}
-use Rattle.store_definitions.specs.Answers.{Answer, is, refused}
+use Rattle.store_definitions.specs.Answers.{is, refused}
 use Rattle.store_definitions.specs.Parts.{tableLength, pointTable}
-use Rattle.store_definitions.specs.Decisions.{andThen, formDecided, live, touchDecided, reads}
+use Rattle.store_definitions.specs.Decisions.{formDecided, live, touchDecided}
 use Rattle.store_definitions.specs.WellFormed.{wellFormed}
 use Rattle.store_definitions.specs.Counting.{countSpec, liveNumberSpec, freeStartSpec}
 use Rattle.store_check.specs.Entries.{countsLive}

@@ -13,9 +13,9 @@ use Rattle.interval_store_manager.specs.declared.Decision.the-variants.{Go, Ref
 use Rattle.interval_store_manager.specs.Calls.{Decided, go, refuse, decisionMeans}
 use Rattle.labels.specs.Decisions.{incDecided, decDecided}
 use Rattle.store_definitions.specs.declared.Store.{Store}
-use Rattle.store_definitions.specs.Memory.{Memory, PointStore, pointStore}
+use Rattle.store_definitions.specs.Memory.{PointStore, pointStore}
 use Rattle.store_definitions.specs.Parts.{tableLength}
-use Rattle.store_definitions.specs.Decisions.{andThen, refuseIf, live, touchDecided}
+use Rattle.store_definitions.specs.Decisions.{refuseIf, live, touchDecided}
 use Rattle.store_definitions.specs.Counting.{incTest, decTest}
 use Rattle.store_counts.specs.Tables.{countsAlone}
 

@@ -1,5 +1,6 @@
-// The calls that count: one more or one less of a point and of its label, lists of such pairs, and the readings of a count, of
-// the number of live points and of the free start. Each public call takes any store and any memory: it checks them first.
+// The calls that count: one more or one less of a point and of its label, and the readings of a count, of the number of live
+// points and of the free start. Each takes any store and any memory, and checks them first; under inc and dec stand the same
+// for callers that have checked.
 mod decide;
 mod lower;
 mod raise;

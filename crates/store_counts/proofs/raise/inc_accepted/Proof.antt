@@ -1,6 +1,6 @@
 -- The point, and with labels on the label.
 use native.Mathlib.Omega.{arith}
-use borrow.Author.Needs.{needs, scaled-fits}
+use borrow.Author.Needs.{scaled-fits}
 use Prim.Native.Nat.{_<_}
 use lib.ListN.{getD, length-set}
 use Rattle.store_definitions.specs.Memory.{pointStore}
