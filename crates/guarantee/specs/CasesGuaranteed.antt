@@ -17,7 +17,7 @@ use Rattle.guarantee.specs.Run.{Call, add, dec, after}
 use Rattle.guarantee.specs.History.{history}
 use Rattle.guarantee.specs.Guarantee.{countAnswer, numberIn, liveIndices, Guarantee}
 use Rattle.guarantee.specs.Theorem.{guaranteed}
-use Rattle.guarantee.specs.WorkedLists.{shape, rubbish, fresh, opens-fresh, listA, listB, listC, listFour, listFive, listD, listAdjust, store, small, listSmall, opens-turning, gave, computed, said}
+use Rattle.guarantee.specs.Cases.{shape, rubbish, fresh, opens-fresh, listA, listB, listC, listFour, listFive, listD, listAdjust, store, small, listSmall, opens-turning, gave, computed, said}
 
 -- what the guarantee gives of them
 record Gives : Type 0 where

@@ -127,8 +127,8 @@ small rotation =
 abbrev pub listSmall : List (Call ℕ)
 listSmall = dec 0 none ∷ add (2 ∷ 3 ∷ []) 0 ∷ add (1 ∷ 2 ∷ []) 0 ∷ []
 
-abbrev pub nines : Bool → Answer
-nines rotation = answerTo eqb 0 (fresh (small rotation)) (add (9 ∷ 9 ∷ []) 0) listSmall
+abbrev pub third : Bool → Answer
+third rotation = answerTo eqb 0 (fresh (small rotation)) (add (9 ∷ 9 ∷ []) 0) listSmall
 
 pub opens-turning : openCall 0 (small true) (rubbish (small true)) ≡ opens (fresh (small true))
 unfolding fresh openSpec openDecided boundsHold startAllowed lentEnough
@@ -154,8 +154,8 @@ pub record Computed : Type 0 where
   pub e-d : take 4 (store listD .memory .location) ≡ 65535 ∷ 65535 ∷ 0 ∷ 1 ∷ []
   pub f-d : freeStartCall (store listD) ≡ is 6
   -- without rotation compaction makes room; with it none is made, and the bound says so
-  pub g-small : nines false ≡ kept 0 none (Whole 2)
-  pub h-small : nines true ≡ refused 10
+  pub g-small : third false ≡ kept 0 none (Whole 2)
+  pub h-small : third true ≡ refused 10
   pub number-d : liveNumberCall (store listD) ≡ is 2
 
 pub computed : Computed
