@@ -1,10 +1,10 @@
 -- For floats, held as their words: a copy is the row turned, the same word at each place, or two zeros of whatever sign.
-use Prim.Native.Nat.{ℕ, _/_, _^_, _<_}
+use Prim.Native.Nat.{ℕ, zero, suc, _-_, _/_, _^_, _<_}
 use mathlib.Core.Bool.{true}
-use mathlib.Core.List.{List, [], _∷_}
+use mathlib.Core.List.{List, [], _∷_, _++_}
 use mathlib.Core.Logic.{_⊎_, inl, inr}
 use mathlib.Core.Path.{_≡_}
-use lib.ListN.{length}
+use lib.ListN.{length, take, drop}
 use Rattle.float_bits.specs.Words.{wordsEqual, plusZero}
 use Rattle.float_bits.specs.Equality.{ZeroWord, same-or-zeros}
 use Rattle.placement.specs.Alike.{Alike}
@@ -40,13 +40,37 @@ words [] (y ∷ ys) h k a = absurd a
 words (x ∷ xs) [] h k a = absurd a
 words (x ∷ xs) (y ∷ ys) h k a = (word x y (h .0) (k .0) (a .0), words xs ys (h .1) (k .1) (a .1))
 
+words-append : (xs ys : List ℕ) → Words xs → Words ys → Words (xs ++ ys)
+words-append [] ys h k = k
+words-append (x ∷ xs) ys h k = (h .0, words-append xs ys (h .1) k)
+
+words-take : (n : ℕ) (xs : List ℕ) → Words xs → Words (take n xs)
+words-take zero xs h = tt
+words-take (suc n) [] h = tt
+words-take (suc n) (x ∷ xs) h = (h .0, words-take n xs (h .1))
+
+words-drop : (n : ℕ) (xs : List ℕ) → Words xs → Words (drop n xs)
+words-drop zero xs h = h
+words-drop (suc n) [] h = tt
+words-drop (suc n) (x ∷ xs) h = words-drop n xs (h .1)
+
+words-turned : (dims t : ℕ) (xs : List ℕ) → Words xs → Words (turned dims t xs)
+unfolding turned
+words-turned dims t xs h = words-append (drop (dims - t) xs) (take (dims - t) xs) (words-drop (dims - t) xs h) (words-take (dims - t) xs h)
+
 module _ (h : Shape) (m : Memory ℕ) (start : PointStore ℕ) (accepted : openCall plusZero h m ≡ opens start) (calls : List (Call ℕ)) where
   abbrev p : PointStore ℕ
   p = after wordsEqual plusZero start calls
 
+  -- the add's row, turned by the place in its answer
+  abbrev pub turnedRow : Given ℕ → List ℕ
+  turnedRow g = turned (h .dimensions) (turn (h .«internal_rotation») (h .dimensions) (h .dimensions / h .«shingle_size») (g .place)) (g .row)
+
+  -- the points and the slice copied to are slices of words: both hypotheses hold by type
   pub float-copies : (i : ℕ) (g : Given ℕ) → LiveSince (history wordsEqual plusZero h start calls) i g
-      → (out : List ℕ) → length out ≡ h .dimensions
-      → (row : List ℕ) → row ≡ turned (h .dimensions) (turn (h .«internal_rotation») (h .dimensions) (h .dimensions / h .«shingle_size») (g .place)) (g .row)
-      → Words (copyCall p i out .out) → Words row → SameOrZeros (copyCall p i out .out) row
-  float-copies i g since out sized row e x y =
-      words (copyCall p i out .out) row x y (rw e (guaranteed wordsEqual plusZero h start m accepted calls .copies-row i g since out sized .1))
+      → (out : List ℕ) → length out ≡ h .dimensions → Words (g .row) → Words (copyCall p i out .out)
+      → SameOrZeros (copyCall p i out .out) (turnedRow g)
+  float-copies i g since out sized row copy =
+      words (copyCall p i out .out) (turnedRow g) copy
+      (words-turned (h .dimensions) (turn (h .«internal_rotation») (h .dimensions) (h .dimensions / h .«shingle_size») (g .place)) (g .row) row)
+      (guaranteed wordsEqual plusZero h start m accepted calls .copies-row i g since out sized .1)

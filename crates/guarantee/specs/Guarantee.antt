@@ -1,7 +1,7 @@
 -- The list guarantee: what holds after every list of calls on a fresh store. One record, with a field for each clause. What is
 -- said of calls is said of their answers alone; the history comes from the calls and their answers.
 use Prim.Native.Nat.{ℕ, _+_, _*_, _/_, _≤_, _<_}
-use mathlib.Core.Bool.{Bool, true}
+use mathlib.Core.Bool.{Bool, true, false}
 use mathlib.Core.List.{List, [], _∷_}
 use mathlib.Core.Path.{_≡_}
 use lib.ListN.{length, getD}
@@ -58,17 +58,19 @@ module _ {E : Type 0} (eq : E → E → Bool) (zeroElement : E) (h : Shape) (sta
   abbrev pub storeAfter : List (Call E) → PointStore E
   storeAfter calls = after eq zeroElement start calls
 
-  -- (g), (h): an add is refused for float space only with rotation, and where the bound plus dimensions, counted before it, passes
-  -- the store length
-  abbrev pub SpaceRefusal : Call E → List (Call E) → Type 0
-  SpaceRefusal (add point code) before =
-      answerTo eq zeroElement start (add point code) before ≡ refused 10
-      → (h .«internal_rotation» ≡ true)
-      × (storeAfter before .header .«store_length» < liveIndices (h .capacity) (past before) * room + h .dimensions)
-  SpaceRefusal (inc i l) before = Unit {0}
-  SpaceRefusal (dec i l) before = Unit {0}
-  SpaceRefusal (adjust pairs) before = Unit {0}
-  SpaceRefusal compact before = Unit {0}
+  -- an add that is not refused for float space
+  abbrev pub NotShort : Call E → List (Call E) → Type 0
+  NotShort (add point code) before = answerTo eq zeroElement start (add point code) before ≡ refused 10 → ⊥
+  NotShort (inc i l) before = Unit {0}
+  NotShort (dec i l) before = Unit {0}
+  NotShort (adjust pairs) before = Unit {0}
+  NotShort compact before = Unit {0}
+
+  -- one that is not while the room of the live indices plus dimensions, counted before it, fits the store length
+  abbrev pub NotShortWithin : Call E → List (Call E) → Type 0
+  NotShortWithin c before =
+      liveIndices (h .capacity) (past before) * room + h .dimensions ≤ storeAfter before .header .«store_length»
+      → NotShort c before
 
   pub record Guarantee (calls : List (Call E)) : Type 0 where
     -- (a) the count call answers for live indices and no others, with one plus incs less decs accepted since the add that last
@@ -93,9 +95,10 @@ module _ {E : Type 0} (eq : E → E → Bool) (zeroElement : E) (h : Shape) (sta
     -- (f) where the last call is compact, the free start is at most the live indices' room
     pub compact-room : (before : List (Call E)) → calls ≡ compact ∷ before
         → storeAfter calls .header .«start_free_region» ≤ liveIndices (h .capacity) (past calls) * room
-    -- (g) without rotation no add of the list is refused for float space; (h) with it none is while that bound plus dimensions,
-    -- counted before the add, fits the store length
-    pub float-space : EachCall SpaceRefusal calls
+    -- (g) without rotation no add of the list is refused for float space
+    pub float-space : h .«internal_rotation» ≡ false → EachCall NotShort calls
+    -- (h) with it none is while that bound plus dimensions, counted before the add, fits the store length
+    pub float-space-within : EachCall NotShortWithin calls
     -- the live-number and free-start calls
     pub live-number : liveNumberCall (storeAfter calls) ≡ is (liveIndices (h .capacity) (past calls))
     pub free-start : freeStartCall (storeAfter calls) ≡ is (storeAfter calls .header .«start_free_region»)

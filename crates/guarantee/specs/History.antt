@@ -59,15 +59,16 @@ unfoldable pub pairsChanges : List Pairing → List Change
 pairsChanges [] = []
 pairsChanges (q ∷ qs) = pairChanges q ++ pairsChanges qs
 
--- ---- the points of the accepted adds, the last one first
-
 module _ {E : Type 0} where
+  -- what a call with this answer changes
   abbrev pub changes : Call E → Answer → List Change
   changes (add point code) a = addChanges a
   changes (inc i l) a = ifDone a (inced i)
   changes (dec i l) a = ifDone a (deced i)
   changes (adjust qs) a = pairsChanges (standing a qs)
   changes compact a = []
+
+  -- ---- the points of the accepted adds, the last one first
 
   -- kept and waiting adds are accepted
   abbrev pub pointsWith : List E → Answer → List (List E) → List (List E)

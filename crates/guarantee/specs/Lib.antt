@@ -2,7 +2,7 @@ pub mod Calls
 pub mod Run
 pub mod History
 pub mod Guarantee
-pub mod WorkedLists
+pub mod Cases
 pub mod Relates
 pub mod LifeLaws
 pub mod CountCalls
@@ -19,4 +19,4 @@ pub mod Fresh
 pub mod FloatSpace
 pub mod Theorem
 pub mod FloatRows
-pub mod WorkedGuarantee
+pub mod CasesGuaranteed

@@ -9,11 +9,7 @@ use borrow.Author.Tests.{lt-ltb, le-ltb}
 use Rattle.guarantee.specs.History.{Given, Life, dead, alive, count, isLive, incedLife, decedLife}
 
 module _ {E : Type 0} where
-  -- a count says that the index is live
-  pub counted-live : (l : Life E) → 0 < count l → isLive l ≡ true
-  counted-live dead h = absurd (omega arith)
-  counted-live (alive a b g) h = refl
-
+  -- an index that is not live has no count
   pub dead-count : (l : Life E) → isLive l ≡ false → count l ≡ 0
   dead-count dead e = refl
   dead-count (alive a b g) e = absurd (false≢true (sym e))

@@ -2,7 +2,7 @@
 use Prim.Native.Nat.{ℕ, _+_, _*_, _/_, _≤_, _<_}
 use native.Mathlib.Decide.{decLt}
 use native.Mathlib.Omega.{arith}
-use mathlib.Core.Bool.{Bool, true, false, and-false}
+use mathlib.Core.Bool.{Bool, true, false, and-false, false≢true}
 use mathlib.Core.List.{List, [], _∷_}
 use mathlib.Core.Path.{_≡_, refl, sym, ap, subst, _∙_}
 use lib.ListN.{length, getD}
@@ -26,7 +26,7 @@ use Rattle.store_laws.specs.OpeningLaws.{open-accepted, opening-well-formed}
 use Rattle.guarantee.specs.Calls.{openCall, copyCall, countCall, liveNumberCall, freeStartCall}
 use Rattle.guarantee.specs.Run.{Call, add, inc, dec, adjust, compact, after}
 use Rattle.guarantee.specs.History.{Given, Life, dead, alive, count, isLive, History, history, recorded, changedBy, nothing}
-use Rattle.guarantee.specs.Guarantee.{countAnswer, numberIn, LiveSince, liveIndices, EachCall, SpaceRefusal, Guarantee}
+use Rattle.guarantee.specs.Guarantee.{countAnswer, numberIn, LiveSince, liveIndices, EachCall, NotShort, NotShortWithin, Guarantee}
 use Rattle.guarantee.specs.LifeLaws.{dead-count}
 use Rattle.guarantee.specs.Relates.{copyAnswer, Relates}
 use Rattle.guarantee.specs.RoomLaws.{compact-free}
@@ -132,13 +132,21 @@ module _ {E : Type 0} (eq : E → E → Bool) (zeroElement : E) (h : Shape) (sta
         rw (compacted, live-number-is eq h then s p w r, ← (r .fits .dimensions), ← (r .fits .shingle), ← (r .fits .rotation), ← (points-number p w))
         (compact-free zeroElement (p .header) (w .table-within) (rowsOf p) (w .rows))
 
-    -- (g), (h)
-    refusal : (c : Call E) → SpaceRefusal eq zeroElement h start c calls
-    refusal (add point code) = space-refusal eq zeroElement p point code h then s (holds .well-formed) r
-    refusal (inc i l) = tt
-    refusal (dec i l) = tt
-    refusal (adjust qs) = tt
-    refusal compact = tt
+    -- (g)
+    not-short : (c : Call E) → h .«internal_rotation» ≡ false → NotShort eq zeroElement h start c calls
+    not-short (add point code) off = λ e. false≢true (sym off ∙ space-refusal eq zeroElement p point code h then s (holds .well-formed) r e .0)
+    not-short (inc i l) off = tt
+    not-short (dec i l) off = tt
+    not-short (adjust qs) off = tt
+    not-short compact off = tt
+
+    -- (h)
+    not-short-within : (c : Call E) → NotShortWithin eq zeroElement h start c calls
+    not-short-within (add point code) fits = λ e. omega (arith, fits, space-refusal eq zeroElement p point code h then s (holds .well-formed) r e .1)
+    not-short-within (inc i l) fits = tt
+    not-short-within (dec i l) fits = tt
+    not-short-within (adjust qs) fits = tt
+    not-short-within compact fits = tt
 
     -- the readings
     live-number : liveNumberCall p ≡ is (liveIndices (h .capacity) s)
@@ -176,9 +184,13 @@ module _ {E : Type 0} (eq : E → E → Bool) (zeroElement : E) (h : Shape) (sta
     run [] = begin
     run (c ∷ calls) = step calls (run calls) c
 
-    each-call : (calls : List (Call E)) → EachCall (SpaceRefusal eq zeroElement h start) calls
-    each-call [] = tt
-    each-call (c ∷ calls) = (refusal calls (run calls) c, each-call calls)
+    unturned : h .«internal_rotation» ≡ false → (calls : List (Call E)) → EachCall (NotShort eq zeroElement h start) calls
+    unturned off [] = tt
+    unturned off (c ∷ calls) = (not-short calls (run calls) c off, unturned off calls)
+
+    within : (calls : List (Call E)) → EachCall (NotShortWithin eq zeroElement h start) calls
+    within [] = tt
+    within (c ∷ calls) = (not-short-within calls (run calls) c, within calls)
 
     -- the list guarantee
     pub guaranteed : (calls : List (Call E)) → Guarantee eq zeroElement h start calls
@@ -194,7 +206,8 @@ module _ {E : Type 0} (eq : E → E → Bool) (zeroElement : E) (h : Shape) (sta
           places-distinct = distinct calls holds;
           places-end = ends calls holds;
           compact-room = λ before e. subst (λ (cs : List (Call E)). storeAfter cs .header .«start_free_region» ≤ liveIndices (h .capacity) (past cs) * pointRoom (h .«internal_rotation») (h .dimensions) (h .dimensions / h .«shingle_size»)) (sym e) (compact-room before (run before));
-          float-space = each-call calls;
+          float-space = λ off. unturned off calls;
+          float-space-within = within calls;
           live-number = live-number calls holds;
           free-start = free-start calls holds;
         }

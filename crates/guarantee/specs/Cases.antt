@@ -127,8 +127,8 @@ small rotation =
 abbrev pub listSmall : List (Call ℕ)
 listSmall = dec 0 none ∷ add (2 ∷ 3 ∷ []) 0 ∷ add (1 ∷ 2 ∷ []) 0 ∷ []
 
-abbrev pub nines : Bool → Answer
-nines rotation = answerTo eqb 0 (fresh (small rotation)) (add (9 ∷ 9 ∷ []) 0) listSmall
+abbrev pub third : Bool → Answer
+third rotation = answerTo eqb 0 (fresh (small rotation)) (add (9 ∷ 9 ∷ []) 0) listSmall
 
 pub opens-turning : openCall 0 (small true) (rubbish (small true)) ≡ opens (fresh (small true))
 unfolding fresh openSpec openDecided boundsHold startAllowed lentEnough
@@ -139,44 +139,47 @@ gave calls row place = record { calls = calls; row = row; place = place }
 
 -- the clauses on these lists, computed
 pub record Computed : Type 0 where
+  -- (d): four kept adds less two decs; one kept add, two incs, one dec
+  pub d-d : sumBelow 10 (λ i. numberIn (countCall (store listD) i)) ≡ 2
+  pub d-adjusted : sumBelow 10 (λ i. numberIn (countCall (store listAdjust) i)) ≡ 2
+  -- (a)
   pub a-waits : countCall (store listA) 0 ≡ refused 5
   pub a-lives : countCall (store listD) 2 ≡ is 1
   pub a-died : countCall (store listD) 0 ≡ refused 5
   pub a-adjusted : countCall (store listAdjust) 0 ≡ is 2
-  -- right after the add that gave it, and still after D
-  pub b-then : copyCall (store listFour) 2 (replicate 4 0) .out ≡ 5 ∷ 6 ∷ 7 ∷ 8 ∷ []
-  pub b-still : copyCall (store listD) 2 (replicate 4 0) .out ≡ 5 ∷ 6 ∷ 7 ∷ 8 ∷ []
+  -- (c): right after the add
   pub c-b : copyCall (store listB) 0 (replicate 4 0) .out ≡ 1 ∷ 2 ∷ 3 ∷ 4 ∷ []
   pub c-c : copyCall (store listC) 1 (replicate 4 0) .out ≡ 3 ∷ 4 ∷ 5 ∷ 6 ∷ []
-  -- four kept adds less two decs; one kept add, two incs, one dec
-  pub d-d : sumBelow 10 (λ i. numberIn (countCall (store listD) i)) ≡ 2
-  pub d-adjusted : sumBelow 10 (λ i. numberIn (countCall (store listAdjust) i)) ≡ 2
+  pub c-four : copyCall (store listFour) 2 (replicate 4 0) .out ≡ 5 ∷ 6 ∷ 7 ∷ 8 ∷ []
+  -- (b): and still after D
+  pub b-d : copyCall (store listD) 2 (replicate 4 0) .out ≡ 5 ∷ 6 ∷ 7 ∷ 8 ∷ []
+  -- (e), (f), and the readings
   pub e-d : take 4 (store listD .memory .location) ≡ 65535 ∷ 65535 ∷ 0 ∷ 1 ∷ []
   pub f-d : freeStartCall (store listD) ≡ is 6
-  -- without rotation compaction makes room; with it none is made, and the bound says so
-  pub g-small : nines false ≡ kept 0 none (Whole 2)
-  pub h-small : nines true ≡ refused 10
   pub number-d : liveNumberCall (store listD) ≡ is 2
+  -- (g), (h): without rotation compaction makes room; with it none is made, and the bound says so
+  pub g-small : third false ≡ kept 0 none (Whole 2)
+  pub h-small : third true ≡ refused 10
 
 pub computed : Computed
 unfolding fresh openedMemory opened after history recorded changedBy pairChanges pairsChanges joinedPoints rowOfAdd liveIndices everyBelow sumBelow countBelow allEqual pushed changed taken released inside holders isFree inBounds noneShared capacityAllowed stackLent managerWellFormed wrappingSub wrappingAdd alignment zerosBefore pointRoom holds liveBelow moved grownBlocks blocks blockMoves copiedDown settled blockDown blocksDown writtenByBlocks compacted turn turned copied grown writtenCount laidAs laidElements laidFree placeOf overlaps rowToLay movedWindow countedWell indexTaken lowered liveNumber codeDecided roomDecided incDecided decDecided raised incTest incremented incSpec pairDecided pairDone adjustFrom adjustSpec decTest placeAfterDec decremented decSpec compactedRows grownRows short roomMade compactSpec copyOf pointLength waits tableFull entriesFilled addDecided windowAfter sequenced rowOf labelGiven labelled tableGrown placed joins overflows laidRows laidHow keptAfter indexGiven keeps addSpec boundsHold rotationAllowed lentEnough formDecided live touchDecided freeStartWell placesDistinct placesEnd pointsWell wellFormed liveNumberSpec freeStartSpec countSpec copyDecided copySpec
 computed =
     record {
+      d-d = refl;
+      d-adjusted = refl;
       a-waits = refl;
       a-lives = refl;
       a-died = refl;
       a-adjusted = refl;
-      b-then = refl;
-      b-still = refl;
       c-b = refl;
       c-c = refl;
-      d-d = refl;
-      d-adjusted = refl;
+      c-four = refl;
+      b-d = refl;
       e-d = refl;
       f-d = refl;
+      number-d = refl;
       g-small = refl;
       h-small = refl;
-      number-d = refl;
     }
 
 -- what the calls and their answers say

@@ -1,5 +1,5 @@
 -- The list guarantee is not empty: instantiated at the worked lists, it gives what the lists show.
-use Prim.Native.Nat.{ℕ, _+_, _*_, _≤_, _<_}
+use Prim.Native.Nat.{ℕ, _+_, _*_, _≤_}
 use native.Mathlib.Omega.{arith}
 use mathlib.Core.Bool.{true}
 use mathlib.Core.List.{List, [], _∷_}
@@ -17,7 +17,7 @@ use Rattle.guarantee.specs.Run.{Call, add, dec, after}
 use Rattle.guarantee.specs.History.{history}
 use Rattle.guarantee.specs.Guarantee.{countAnswer, numberIn, liveIndices, Guarantee}
 use Rattle.guarantee.specs.Theorem.{guaranteed}
-use Rattle.guarantee.specs.WorkedLists.{shape, rubbish, fresh, opens-fresh, listA, listB, listC, listFour, listFive, listD, listAdjust, store, small, listSmall, opens-turning, gave, computed, said}
+use Rattle.guarantee.specs.Cases.{shape, rubbish, fresh, opens-fresh, listA, listB, listC, listFour, listFive, listD, listAdjust, store, small, listSmall, opens-turning, gave, computed, said}
 
 -- what the guarantee gives of them
 record Gives : Type 0 where
@@ -33,8 +33,8 @@ record Gives : Type 0 where
   d-sum : sumBelow 10 (λ i. numberIn (countCall (store listD) i)) ≡ 2
   d-room : store listD .header .«start_free_region» ≤ 8
   d-number : liveNumberCall (store listD) ≡ is 2
-  -- a live point's room of 3 floats, and 2 floats more, pass the store length
-  h-bound : after eqb 0 (fresh (small true)) listSmall .header .«store_length» < liveIndices 2 (history eqb 0 (small true) (fresh (small true)) listSmall) * 3 + 2
+  -- a live point's room of 3 floats and 2 floats more do not fit the store length
+  h-bound : liveIndices 2 (history eqb 0 (small true) (fresh (small true)) listSmall) * 3 + 2 ≤ after eqb 0 (fresh (small true)) listSmall .header .«store_length» → ⊥
 
 abbrev holding : (calls : List (Call ℕ)) → Guarantee eqb 0 shape (fresh shape) calls
 holding calls = guaranteed eqb 0 shape (fresh shape) (rubbish shape) opens-fresh calls
@@ -55,5 +55,5 @@ gives =
       d-sum = omega (arith, holding listD .sum, said .d-adds, said .d-incs, said .d-decs);
       d-room = rw (said .d-number) at (holding listD .compact-room (dec 1 none ∷ dec 0 none ∷ listFive) refl);
       d-number = holding listD .live-number ∙ ap is (said .d-number);
-      h-bound = guaranteed eqb 0 (small true) (fresh (small true)) (rubbish (small true)) opens-turning (add (9 ∷ 9 ∷ []) 0 ∷ listSmall) .float-space .0 (computed .h-small) .1;
+      h-bound = λ fits. guaranteed eqb 0 (small true) (fresh (small true)) (rubbish (small true)) opens-turning (add (9 ∷ 9 ∷ []) 0 ∷ listSmall) .float-space-within .0 fits (computed .h-small);
     }
