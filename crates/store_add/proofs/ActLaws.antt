@@ -1,5 +1,5 @@
 -- What an add relies on once it is accepted, and its parts put together.
-use Prim.Native.Nat.{ℕ, _+_, _*_, _-_, _/_, _≤_, _<_}
+use Prim.Native.Nat.{ℕ, _+_, _-_, _≤_, _<_}
 use native.Mathlib.Nat.{div-le-self}
 use native.Mathlib.Decide.{ℕ-discrete}
 use native.Mathlib.Omega.{arith}
@@ -7,8 +7,8 @@ use mathlib.Core.Bool.{Bool, true, false, cond, not, false≢true}
 use mathlib.Core.List.{List}
 use mathlib.Core.Path.{_≡_, refl, sym, _∙_, ap}
 use lib.ListN.{length}
-use lib.Dec.{eqb, ltb}
-use borrow.Author.Tests.{eq-eqb, ne-eqb, eqb-true, eqb-false, ltb-false, not-true, not-false}
+use lib.Dec.{eqb}
+use borrow.Author.Tests.{eq-eqb, ne-eqb, ltb-false}
 use Rattle.terms.specs.Below.{positive}
 use Rattle.terms.specs.declared.Refusal.{Refusal}
 use Rattle.terms.specs.Refusals.{number}
@@ -20,10 +20,10 @@ use Rattle.placement.specs.Growth.{grown, grown-within}
 use Rattle.placement.specs.Laying.{writtenCount, laidAs, laidElements, laidFree, placeOf}
 use Rattle.placement.specs.Overlap.{overlaps}
 use Rattle.placement_rows.specs.Layable.{Layable, overlaps-shared}
-use Rattle.labels.specs.Counted.{Counted, counted, nextIndex, indexTaken}
+use Rattle.labels.specs.Counted.{Counted, counted, nextIndex}
 use Rattle.labels.specs.CountedLaws.{WellCounted}
 use Rattle.labels.specs.Decisions.{none, codeDecided, roomDecided}
-use Rattle.labels.specs.Labels.{Labels, LabelTaken, labelTaken}
+use Rattle.labels.specs.Labels.{LabelTaken, labelTaken}
 use Rattle.labels.specs.Sound.{sound-make as labels-sound-make}
 use Rattle.store_definitions.specs.declared.Store.{Store}
 use Rattle.store_definitions.specs.Memory.{Memory, PointStore, pointStore}
@@ -32,21 +32,22 @@ use Rattle.store_definitions.specs.Answers.{kept, waiting, refused, Outcome, ou
 use Rattle.store_definitions.specs.Decisions.{andThen, refuseIf, formDecided}
 use Rattle.store_definitions.specs.Rows.{roomMade}
 use Rattle.store_definitions.specs.Adding.{pointLength, waits, tableFull, entriesFilled, AddDecided, keep, wait, refuseAdd, thenAdd, addDecided, windowAfter, sequenced, rowOf, labelGiven, labelled, tableGrown, placed, joins, overflows, laidRows, laidHow, keptAfter, indexGiven as givenIndex, keeps, addCarriedOut, addSpec}
-use Rattle.store_definitions.specs.WellFormed.{classTable, wellFormed}
+use Rattle.store_definitions.specs.WellFormed.{classTable}
+use Rattle.store_definitions.specs.WellFormed.{wellFormed}
 use Rattle.store_laws.specs.BoundsLaws.{InBounds, base-some}
 use Rattle.store_laws.specs.Sound.{Sound, sound}
 use Rattle.store_laws.specs.RowsLaws.{RowsOf}
-use Rattle.store_laws.specs.TableLaws.{Ready, as-it-is, grown-ready}
-use Rattle.store_laws.specs.DecisionLaws.{form-go}
-use Rattle.store_laws.specs.AddDecisionLaws.{Accepted, Kept, waits-on, keeps-on}
+use Rattle.store_laws.specs.TableLaws.{grown-ready}
+use Rattle.store_laws.specs.DecisionLaws.{allowed}
+use Rattle.store_laws.specs.AddDecisionLaws.{Kept, waits-on, keeps-on}
 use Rattle.store_laws.specs.AddingLaws.{can-grow}
 use Rattle.store_check.specs.CheckLaws.{elementless, well-formed-lengths}
 use Rattle.store_add.specs.declared.AddDecision.{AddDecision}
 use Rattle.store_add.specs.declared.AddDecision.the-variants as atDecision
 use Rattle.store_add.specs.Answering.{SequenceOpen, countedStore}
 use Rattle.store_add.specs.Deciding.{decisionMeans, checkedAsked, checked-is}
-use Rattle.store_add.specs.Pieces.{rowsAt, windowMoved, rowFrom, labelFor, grownTable, grownPlaces, IndexGiven, indexPlaced, indexFor}
-use Rattle.store_add.specs.Requires.{Roomy, Rowed, Labelled, Growable, IndexReady}
+use Rattle.store_add.specs.Pieces.{windowMoved, rowFrom, labelFor, grownTable, grownPlaces, IndexGiven, indexPlaced, indexFor}
+use Rattle.store_add.specs.Requires.{Roomy, Rowed, Labelled, IndexReady}
 use Rattle.store_add.proofs.RoomLaws.{base-most}
 
 abbrev accepts : AddDecided → Bool
@@ -64,13 +65,17 @@ last-refused go (refuse n) c a true e h = false≢true h
 last-refused (refuse n) l c a true e h = false≢true h
 last-refused f l c a false e h = false≢true e
 
+formed : (p : PointStore ℕ) → formDecided p ≡ go → wellFormed p ≡ true
+unfolding formDecided
+formed p e = allowed (wellFormed p) 1 e
+
 module _ (p : PointStore ℕ) (point : List ℕ) (code : ℕ) where
   abbrev s : Store
   s = p .header
 
   accepted-sound : accepts (addDecided p point code) ≡ true → Sound p
   unfolding addDecided
-  accepted-sound e = sound p (form-go p (first-go (formDecided p) _ _ e))
+  accepted-sound e = sound p (formed p (first-go (formDecided p) _ _ e))
 
   sequence-open : accepts (addDecided p point code) ≡ true → SequenceOpen s
   unfolding addDecided

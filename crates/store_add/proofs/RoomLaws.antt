@@ -20,10 +20,10 @@ use Rattle.placement.specs.Row.{rowToLay, movedWindow}
 use Rattle.placement_rows.specs.Compactable.{Compactable, layout, compactedTable}
 use Rattle.placement_rows.specs.Layable.{Layable}
 use Rattle.store_definitions.specs.declared.Store.{Store}
-use Rattle.store_definitions.specs.Parts.{baseOf, extraOf, tableLength, Rows}
+use Rattle.store_definitions.specs.Parts.{baseOf, tableLength, Rows}
 use Rattle.store_definitions.specs.Adding.{pointLength, joins, overflows}
 use Rattle.store_definitions.specs.Rows.{compactedRows, grownRows, short, roomMade}
-use Rattle.store_laws.specs.BoundsLaws.{InBounds, base-some, base-divides}
+use Rattle.store_laws.specs.BoundsLaws.{InBounds, base-divides}
 use Rattle.store_laws.specs.RowsLaws.{RowsOf, compacted-sound, room-sound}
 use Rattle.store_add.specs.Pieces.{rowsAt, rowsIn, windowMoved, rowFrom}
 use Rattle.store_add.specs.Requires.{Roomy, Rowed}

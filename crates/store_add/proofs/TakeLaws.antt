@@ -1,11 +1,10 @@
 -- What taking a label and an index leaves.
 use Prim.Native.Nat.{ℕ, _+_, _-_, _≤_, _<_}
 use native.Mathlib.Omega.{arith}
-use mathlib.Core.Bool.{Bool, true, false, cond, _&&_}
+use mathlib.Core.Bool.{true, false}
 use mathlib.Core.List.{List, _++_}
-use mathlib.Core.Path.{_≡_, refl, sym, _∙_, ap, ap₂}
+use mathlib.Core.Path.{_≡_, sym, _∙_, ap, ap₂}
 use lib.ListN.{length, take, drop, set, replicate}
-use lib.Dec.{leb, eqb}
 use borrow.Author.Tests.{eq-eqb, ne-eqb, le-leb}
 use Rattle.terms.specs.Below.{and-make}
 use Rattle.interval_store_manager.specs.declared.IntervalStoreManager.{IntervalStoreManager}
@@ -14,7 +13,7 @@ use Rattle.interval_store_manager.specs.Calls.{changed, taken}
 use Rattle.interval_store_manager.specs.WellFormed.{lentEnough, wellFormed}
 use Rattle.placement.specs.Growth.{grown}
 use Rattle.placement.specs.InPlace.{filled}
-use Rattle.labels.specs.Counted.{Counted, counted, nextIndex, indexTaken}
+use Rattle.labels.specs.Counted.{Counted, counted, indexTaken}
 use Rattle.labels.specs.CountedLaws.{next-within, index-given, index-taken}
 use Rattle.labels.specs.Decisions.{none}
 use Rattle.labels.specs.Labels.{Labels, LabelTaken, labelTaken}

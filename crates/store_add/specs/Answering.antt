@@ -1,7 +1,6 @@
 -- The record and the answer after an add, from what its parts gave.
-use Prim.Native.Nat.{ℕ, _+_}
+use Prim.Native.Nat.{_+_}
 use mathlib.Core.Path.{_≡_}
-use Rattle.terms.specs.declared.PointIndex.{PointIndex}
 use Rattle.terms.specs.declared.Refusal.the-variants.{FloatSpaceFull}
 use Rattle.placement_rows.specs.declared.laying.LaidRow.{LaidRow}
 use Rattle.labels.specs.declared.TakenLabel.{TakenLabel}

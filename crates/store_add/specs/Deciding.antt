@@ -38,11 +38,6 @@ addAsked s n code =
     (andThen (refuseIf (eqb (s .«next_sequence_index») 4294967295) 12) (codeDecided (s .«store_labels») code)))
     (keepAsked s)
 
--- an order of refusals, then what follows
-pub then-through : (d e : Decided) (a : AddDecided) → thenAdd (andThen d e) a ≡ thenAdd d (thenAdd e a)
-then-through go e a = refl
-then-through (refuse n) e a = refl
-
 module _ {E : Type 0} (p : PointStore E) (point : List E) (code : ℕ) where
   pub asked-well : wellFormed p ≡ true → addDecided p point code ≡ addAsked (p .header) (length point) code
   unfolding addDecided addAsked keepAsked formDecided

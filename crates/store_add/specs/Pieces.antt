@@ -1,10 +1,9 @@
 -- What each part of an add leaves, over the lists that it sees.
 use Prim.Native.Nat.{ℕ, _+_}
-use mathlib.Core.Bool.{Bool, cond}
+use mathlib.Core.Bool.{cond}
 use mathlib.Core.List.{List, _++_}
 use lib.ListN.{take, drop, set}
 use lib.Dec.{eqb}
-use Rattle.interval_store_manager.specs.declared.IntervalStoreManager.{IntervalStoreManager}
 use Rattle.interval_store_manager.specs.Calls.{changed}
 use Rattle.placement.specs.Growth.{grown}
 use Rattle.placement.specs.Row.{rowToLay, movedWindow}

@@ -1,6 +1,6 @@
 -- Decided, and then carried out.
 use Prim.Native.Nat.{ℕ}
-use mathlib.Core.Path.{sym, _∙_}
+use mathlib.Core.Path.{_∙_}
 use Rattle.store_definitions.specs.Memory.{Memory, pointStore}
 use Rattle.store_definitions.specs.Answers.{addedMeans, outcome}
 use Rattle.store_add.proofs.ActLaws.{added, decided-as}
