@@ -23,7 +23,7 @@ fn value_limit(s: Store) -> usize
     s.dimensions
 }
 
-// With no early exit, so that it is compiled to vector code.
+// Which value is too large is not asked, so there is no early exit.
 fn values_below(values: &[usize], limit: usize) -> bool
     ensures { λ r. ⌜ r ≡ valuesBelow limit (now (values .entry)) ⌝ }
 {

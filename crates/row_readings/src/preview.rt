@@ -12,7 +12,7 @@ use store_definitions::Store;
 use terms::FloatBits;
 use terms::Refusal;
 
-// The point is last in the moved window, or rotating over the entries that an add would replace in the unmoved one.
+// The point stands last in the moved window or, rotating, over entry (sequence × base) mod dimensions of the unmoved one.
 fn show_window(
     rotation: bool,
     dimensions: usize,
