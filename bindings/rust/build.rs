@@ -14,7 +14,9 @@ fn main() {
         eprintln!("there is no {}", archive.display());
         eprintln!("run 'rt staticlib point_store_c' at the root of the repository: it proves the");
         eprintln!("library and writes target/staticlib/libpoint_store_c.a;");
-        eprintln!("or set POINT_STORE_LIB to the absolute path of the folder that holds the archive");
+        eprintln!(
+            "or set POINT_STORE_LIB to the absolute path of the folder that holds the archive"
+        );
         exit(1);
     }
     println!("cargo:rustc-link-search=native={}", folder.display());

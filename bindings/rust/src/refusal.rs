@@ -91,7 +91,7 @@ impl Refusal {
 
     fn number_and_text(self) -> (u64, &'static str) {
         match self {
-            Refusal::IllFormed => (1, "the store is ill-formed or its memory too short"),
+            Refusal::IllFormed => (1, "the store is ill-formed, or its memory is too short"),
             Refusal::Shape => (2, "the shape is outside the bounds"),
             Refusal::Length => (3, "the point does not have the length that the store takes"),
             Refusal::LabelCode => (4, "the label code is above 23"),
@@ -100,11 +100,23 @@ impl Refusal {
             Refusal::CountFull => (7, "a count stands at 65,535 and cannot rise"),
             Refusal::LabelsFull => (8, "every label index is in use"),
             Refusal::PointsFull => (9, "no point index is free and the table cannot grow"),
-            Refusal::FloatSpaceFull => (10, "no space for the row, compacted and grown"),
-            Refusal::ValueTooLarge => (11, "a listed value, look-ahead or weight is too large"),
-            Refusal::SequenceFull => (12, "the store has taken as many points as it can count"),
+            Refusal::FloatSpaceFull => (
+                10,
+                "there is no space for the row, even after compaction and growth",
+            ),
+            Refusal::ValueTooLarge => (
+                11,
+                "a listed value, the look-ahead or a weight is too large",
+            ),
+            Refusal::SequenceFull => (
+                12,
+                "the store has taken 4,294,967,295 points and takes no more",
+            ),
             Refusal::ManagerCapacity => (13, "the manager's capacity is 0 or above 1,024"),
-            Refusal::NotReleasable => (14, "the index to be released is not in use"),
+            Refusal::NotReleasable => (
+                14,
+                "the index to be released is free or not below the capacity",
+            ),
             Refusal::Other(number) => (number, "a cause that this crate does not know"),
         }
     }

@@ -58,7 +58,7 @@ pub struct ProvedPointStore {
 }
 
 impl ProvedPointStore {
-    /// Opens a store. `store_attributes` turns labels and attributes on; `propagate_attributes` is
+    /// Opens a store. `store_attributes` turns labels and attributes on; `_propagate_attributes` is
     /// there because the Rust original's constructor has it, which never reads it either.
     ///
     /// Dimensions are 1 to 64, the shingle size divides them, the capacity is 1 to 1,024, capacity ×
@@ -81,9 +81,8 @@ impl ProvedPointStore {
         internal_shingling: bool,
         internal_rotation: bool,
         store_attributes: bool,
-        propagate_attributes: bool,
+        _propagate_attributes: bool,
     ) -> Result<ProvedPointStore> {
-        let _ = propagate_attributes;
         let shape = sys::Shape {
             dimensions,
             shingle_size,

@@ -202,3 +202,20 @@ fn a_pair_may_give_its_count_to_another_point() {
     assert_eq!(store.count(1), Err(Refusal::PointNotInUse));
     assert_eq!(store.label(1), Err(Refusal::LabelNotInUse));
 }
+
+#[test]
+fn point_and_label_keep_their_positions() {
+    let mut store = labelled();
+    store.add(&[1.0, 2.0], 0).unwrap();
+    store.add(&[3.0, 4.0], 9).unwrap();
+    // Point 0 takes over label 1, and point 1 is given up.
+    store.adjust_count(&[((0, 1), (1, 1))]).unwrap();
+    assert_eq!(store.count(0), Ok(2));
+    assert_eq!(store.count(1), Err(Refusal::PointNotInUse));
+    store.dec(0, 0).unwrap();
+    assert_eq!(store.count(0), Ok(1));
+    assert_eq!(store.label(0), Err(Refusal::LabelNotInUse));
+    assert_eq!(store.label(1), Ok(9));
+    store.inc(0, 1).unwrap();
+    assert_eq!(store.count(0), Ok(2));
+}
