@@ -18,7 +18,8 @@ pub type Result<T> = std::result::Result<T, Refusal>;
 /// let refusal = store.add(&[1.0, 2.0, 3.0], 0).unwrap_err();
 /// assert_eq!(refusal, Refusal::Length);
 /// assert_eq!(refusal.number(), 3);
-/// assert_eq!(refusal.to_string(), "the point does not have the length that the store takes");
+/// let text = "the point does not have the length that the store takes (refusal 3)";
+/// assert_eq!(refusal.to_string(), text);
 /// ```
 #[derive(Clone, Copy, Debug, PartialEq, Eq, Hash)]
 pub enum Refusal {
@@ -124,7 +125,8 @@ impl Refusal {
 
 impl fmt::Display for Refusal {
     fn fmt(&self, f: &mut fmt::Formatter<'_>) -> fmt::Result {
-        f.write_str(self.number_and_text().1)
+        let (number, text) = self.number_and_text();
+        write!(f, "{text} (refusal {number})")
     }
 }
 
@@ -185,7 +187,7 @@ mod tests {
     fn no_two_causes_read_the_same() {
         for (i, one) in CAUSES.iter().enumerate() {
             for other in &CAUSES[i + 1..] {
-                assert_ne!(one.to_string(), other.to_string());
+                assert_ne!(one.number_and_text().1, other.number_and_text().1);
             }
         }
     }
@@ -198,7 +200,7 @@ mod tests {
         };
         assert_eq!(
             adjust.to_string(),
-            "pair 2: a count stands at 65,535 and cannot rise"
+            "pair 2: a count stands at 65,535 and cannot rise (refusal 7)"
         );
         assert_eq!(Refusal::from(adjust), Refusal::CountFull);
     }
