@@ -5,6 +5,8 @@
 //!
 //!     rt staticlib point_store_c
 //!     cargo run --manifest-path examples/rust/Cargo.toml
+//!
+//! The file 'stdout' is what it prints.
 
 use point_store::{Added, Laid, PointStore, ProvedPointStore, Result, NONE};
 
