@@ -104,7 +104,7 @@ module _ (words : List ℕ) (size : ℕ) (starts ends : List ℕ) where
     open-done m e = open-long (opened m) e
 
 -- a bool's cast
-cast-one : (b : Bool) → boolByte b ≡ one b
+pub cast-one : (b : Bool) → boolByte b ≡ one b
 cast-one true = refl
 cast-one false = refl
 
