@@ -2,5 +2,6 @@ pub mod Exported
 pub mod ExportedLaws
 pub mod ExportedStore
 pub mod ExportedStoreLaws
+pub mod Naming
 pub mod RecordLaws
 pub mod Records

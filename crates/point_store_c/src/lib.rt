@@ -4,6 +4,7 @@
 mod answers;
 mod counts;
 mod manager;
+mod name;
 mod opening;
 mod record;
 mod rows;
