@@ -2,12 +2,13 @@
 ghost use mathlib.Core.Path.{_≡_};
 ghost use mathlib.Core.List.{[], _∷_};
 ghost use Rattle.placement.specs.Laying.{placeOf};
-ghost use Rattle.store_definitions.specs.Answers.{addedMeans, adjustedMeans, doneMeans, numberMeans};
+ghost use Rattle.store_definitions.specs.Answers.{addedMeans, adjustedMeans, doneMeans, equalityMeans, numberMeans};
 ghost use Rattle.point_store_c.specs.ExportedStore.{joinedNumber, read, exportedReading};
 use placement::Laid;
 use store_definitions::Added;
 use store_definitions::Adjusted;
 use store_definitions::Done;
+use store_definitions::Equality;
 use store_definitions::Number;
 use terms::refusal_number;
 
@@ -27,6 +28,18 @@ pub fn number_out(answer: Number, number: &mut u64) -> u64
         Number::Refused(why) => refusal_number(why),
         Number::Is(n) => {
             *number = n as u64;
+            0
+        }
+    }
+}
+
+pub fn equality_out(answer: Equality, equal: &mut u64) -> u64
+    ensures { λ r. ⌜ read r (now (equal .exit) ∷ []) ≡ exportedReading (now (equal .entry) ∷ []) (equalityMeans answer) ⌝ }
+{
+    match answer {
+        Equality::Refused(why) => refusal_number(why),
+        Equality::Is(b) => {
+            *equal = b as u64;
             0
         }
     }
