@@ -1,7 +1,7 @@
 -- From what a call of the store ensures to what the exported call owes, for any of the definitions f.
 use Prim.Native.Nat.{ℕ, _≤_, _<_}
 use mathlib.Core.Bool.{Bool, true, false, cond, _&&_}
-use mathlib.Core.List.{List, [], _∷_}
+use mathlib.Core.List.{List, []}
 use mathlib.Core.Path.{_≡_, refl, sym, _∙_, ap}
 use lib.Dec.{leb}
 use lib.ListN.{length}
@@ -13,7 +13,7 @@ use Rattle.store_definitions.specs.declared.Store.{Store}
 use Rattle.store_definitions.specs.declared.Shape.{Shape}
 use Rattle.store_definitions.specs.declared.Done.{Done}
 use Rattle.store_definitions.specs.declared.Done.the-variants as atDone
-use Rattle.store_definitions.specs.Answers.{Answer, done, doneMeans, Outcome, outcome, Output, output}
+use Rattle.store_definitions.specs.Answers.{Answer, done, refused, doneMeans, Outcome, outcome, Output, output}
 use Rattle.store_definitions.specs.Bounds.{boundsHold, startAllowed}
 use Rattle.store_definitions.specs.Counting.{incTest, incremented, incSpec}
 use Rattle.store_definitions.specs.Decisions.{andThen, formDecided, carriedOut}
@@ -23,7 +23,7 @@ use Rattle.store_definitions.specs.Parts.{pointTable, labelHalf, withPoints, wi
 use Rattle.store_rows.specs.Openings.{openedAs as opensAs}
 use Rattle.point_store_c.specs.Records.{storeOut, storeIn, recorded}
 use Rattle.point_store_c.specs.RecordLaws.{record-kept}
-use Rattle.point_store_c.specs.ExportedStore.{Exported, exported, exportedCall, Read, read, exportedReading, written, exportedOutput, returned, openedAs, shortRecord, exportedOpening}
+use Rattle.point_store_c.specs.ExportedStore.{exported, exportedCall, Read, read, exportedReading, written, exportedOutput, returned, openedAs, shortRecord, exportedOpening}
 
 -- lent memory by its lists, in the order of the slices
 abbrev pub memory : (store window counts location starts ends labels slots labelCounts labelStarts labelEnds classes slotCounts slotStarts slotEnds : List ℕ) → Memory ℕ
@@ -45,6 +45,11 @@ memory store window counts location starts ends labels slots labelCounts labelSt
       attributeStarts = slotStarts;
       attributeEnds = slotEnds;
     }
+
+-- a refusal that leaves the store leaves the caller's record, numbers and memory
+pub refusal-leaves : (words xs : List ℕ) (m : Memory ℕ) (n : ℕ) → exportedCall words xs (outcome (refused n) (pointStore (storeIn words) m)) ≡ exported n words xs m
+unfolding exportedCall
+refusal-leaves words xs m n = ap (λ (l : List ℕ). exported n l xs m) (record-kept words)
 
 module _ (words : List ℕ) (m : Memory ℕ) (s : Store) (read-in : s ≡ storeIn words) where
   module _ (f : PointStore ℕ → Outcome ℕ) (a : Answer) (after : Store) (m′ : Memory ℕ) (ensures : outcome a (pointStore after m′) ≡ f (pointStore s m)) where
@@ -100,16 +105,17 @@ module _ (h : Shape) (within : Bool) (e : within ≡ boundsHold (h .dimensions) 
   unfolding shortRecord startAllowed
   short-refused t = rw (sym e, t)
 
-module _ (words : List ℕ) (h : Shape) (m : Memory ℕ) where
-  pub open-short : (n : ℕ) → length words < 15 → n ≡ shortRecord h → exported n words [] m ≡ exportedOpening words h m
+module _ (words : List ℕ) (h asked : Shape) (read-in : h ≡ asked) (m : Memory ℕ) where
+  pub open-short : (n : ℕ) → length words < 15 → n ≡ shortRecord h → exported n words [] m ≡ exportedOpening words asked m
   unfolding exportedOpening
-  open-short n l e = rw (lt-leb 15 (length words) l, e)
+  open-short n l e = rw (lt-leb 15 (length words) l, e, read-in)
 
   told : (a : Done) (s : Store) (m′ : Memory ℕ) → exported (returned (doneMeans a)) (openedWords words a s) [] m′ ≡ openedAs words (opensAs a s m′)
   told atDone.Done s m′ = refl
   told (atDone.Refused why) s m′ = refl
 
-  pub open-long : (a : Done) (s : Store) (m′ : Memory ℕ) (n : ℕ) (words′ : List ℕ) → 15 ≤ length words → opensAs a s m′ ≡ openSpec 0 h m → (n ≡ returned (doneMeans a)) × (words′ ≡ openedWords words a s) → exported n words′ [] m′ ≡ exportedOpening words h m
+  pub open-long : (a : Done) (s : Store) (m′ : Memory ℕ) (n : ℕ) (words′ : List ℕ) → 15 ≤ length words → opensAs a s m′ ≡ openSpec 0 h m → (n ≡ returned (doneMeans a)) × (words′ ≡ openedWords words a s) → exported n words′ [] m′ ≡ exportedOpening words asked m
   unfolding exportedOpening
   open-long a s m′ n words′ l ensures e =
-      rw (e .0, e .1, le-leb 15 (length words) l) (told a s m′ ∙ ap (openedAs words) ensures)
+      rw (e .0, e .1, le-leb 15 (length words) l)
+      (told a s m′ ∙ ap (openedAs words) (ensures ∙ ap (λ (k : Shape). openSpec 0 k m) read-in))

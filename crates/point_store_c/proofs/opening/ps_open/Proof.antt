@@ -1,8 +1,5 @@
 -- A record too short is refused before the opening; else the opening decides, and its record is written.
-use mathlib.Core.List.{[]}
-use mathlib.Core.Path.{_∙_, ap}
-use Rattle.store_definitions.specs.declared.Shape.{Shape}
-use Rattle.point_store_c.specs.ExportedStore.{shapeIn, exportedOpening}
+use Rattle.point_store_c.specs.ExportedStore.{shapeIn}
 use Rattle.point_store_c.specs.ExportedStoreLaws.{memory, open-short, open-long}
 use Rattle.point_store_c.proofs.opening.ps_open.Statement.{statement}
 use Rattle.point_store_c.proofs.opening.ps_open.Tie as tie
@@ -17,8 +14,8 @@ returns : tie.Need-returns
 returns c =
     let a = c .before .before .before .before .before .before .before .before .before .before .before .before .before .before .before .before .before .before .before .args in
     let h = c .before .before .shape-in in
-    open-short (a .words .now) (h .result) (memory (a .store .now) (a .last-known-shingle .now) (a .reference-count .now) (a .location .now) (a .index-starts .now) (a .index-ends .now) (a .labels .now) (a .label-attributes .now) (a .label-count .now) (a .label-starts .now) (a .label-ends .now) (a .attributes .now) (a .attribute-count .now) (a .attribute-starts .now) (a .attribute-ends .now)) (c .short-record .result) (c .before .if1 .taken) (c .short-record .ensures)
-    ∙ ap (λ (s : Shape). exportedOpening (a .words .now) s (memory (a .store .now) (a .last-known-shingle .now) (a .reference-count .now) (a .location .now) (a .index-starts .now) (a .index-ends .now) (a .labels .now) (a .label-attributes .now) (a .label-count .now) (a .label-starts .now) (a .label-ends .now) (a .attributes .now) (a .attribute-count .now) (a .attribute-starts .now) (a .attribute-ends .now))) (h .ensures)
+    open-short (a .words .now) (h .result) (shapeIn (a .dimensions) (a .shingle-size) (a .capacity) (a .initial-capacity) (a .internal-shingling) (a .internal-rotation) (a .store-labels)) (h .ensures)
+    (memory (a .store .now) (a .last-known-shingle .now) (a .reference-count .now) (a .location .now) (a .index-starts .now) (a .index-ends .now) (a .labels .now) (a .label-attributes .now) (a .label-count .now) (a .label-starts .now) (a .label-ends .now) (a .attributes .now) (a .attribute-count .now) (a .attribute-starts .now) (a .attribute-ends .now)) (c .short-record .result) (c .before .if1 .taken) (c .short-record .ensures)
 
 open-requires : tie.Need-open-requires
 open-requires c κs = tt
@@ -81,10 +78,9 @@ returns-2 c =
     let h = c .before .before .before .before .before .before .before .before .before .before .before .before .before .before .before .before .before .before .before .before .before .before .before .before .before .before .before .before .before .before .before .before .before .before .before .before .before .before .before .before .before .before .before .before .before .before .before .before .before .before .before .shape-in in
     let g = c .before .before .before .before .before .before .before .before .before .before .before .before .before .before .before .before .before .before .before .before .before .before .before .before .before .before .before .before .before .before .before .before .before .before .open in
     let o = c .before .before .opened-out in
-    let m = (memory (a .store .now) (a .last-known-shingle .now) (a .reference-count .now) (a .location .now) (a .index-starts .now) (a .index-ends .now) (a .labels .now) (a .label-attributes .now) (a .label-count .now) (a .label-starts .now) (a .label-ends .now) (a .attributes .now) (a .attribute-count .now) (a .attribute-starts .now) (a .attribute-ends .now)) in
-    open-long (a .words .now) (h .result) m (g .result .answer) (g .result .store)
+    open-long (a .words .now) (h .result) (shapeIn (a .dimensions) (a .shingle-size) (a .capacity) (a .initial-capacity) (a .internal-shingling) (a .internal-rotation) (a .store-labels)) (h .ensures)
+    (memory (a .store .now) (a .last-known-shingle .now) (a .reference-count .now) (a .location .now) (a .index-starts .now) (a .index-ends .now) (a .labels .now) (a .label-attributes .now) (a .label-count .now) (a .label-starts .now) (a .label-ends .now) (a .attributes .now) (a .attribute-count .now) (a .attribute-starts .now) (a .attribute-ends .now)) (g .result .answer) (g .result .store)
     (memory (g .last .1 .0) (g .last .1 .1 .0) (g .last .1 .1 .1 .0) (g .last .1 .1 .1 .1 .0) (g .last .1 .1 .1 .1 .1 .0) (g .last .1 .1 .1 .1 .1 .1 .0) (g .last .1 .1 .1 .1 .1 .1 .1 .0) (g .last .1 .1 .1 .1 .1 .1 .1 .1 .0) (g .last .1 .1 .1 .1 .1 .1 .1 .1 .1 .0) (g .last .1 .1 .1 .1 .1 .1 .1 .1 .1 .1 .0) (g .last .1 .1 .1 .1 .1 .1 .1 .1 .1 .1 .1 .0) (g .last .1 .1 .1 .1 .1 .1 .1 .1 .1 .1 .1 .1 .0) (g .last .1 .1 .1 .1 .1 .1 .1 .1 .1 .1 .1 .1 .1 .0) (g .last .1 .1 .1 .1 .1 .1 .1 .1 .1 .1 .1 .1 .1 .1 .0) (g .last .1 .1 .1 .1 .1 .1 .1 .1 .1 .1 .1 .1 .1 .1 .1 .0)) (o .result) (o .last .0) (c .before .before .before .before .before .before .before .before .before .before .before .before .before .before .before .before .before .before .before .before .before .before .before .before .before .before .before .before .before .before .before .before .before .before .before .before .before .before .before .before .before .before .before .before .before .before .before .before .before .before .if1 .left) (g .ensures) (o .ensures)
-    ∙ ap (λ (s : Shape). exportedOpening (a .words .now) s m) (h .ensures)
 
 pub ps-open-spec : {M : Type 1} → statement M
 ps-open-spec = tie.close (tie.spec shape-in-requires short-record-requires returns open-requires opened-out-requires same-length same-length-2 same-length-3 same-length-4 same-length-5 same-length-6 same-length-7 same-length-8 same-length-9 same-length-10 same-length-11 same-length-12 same-length-13 same-length-14 same-length-15 same-length-16 returns-2)

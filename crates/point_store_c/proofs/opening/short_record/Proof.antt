@@ -1,5 +1,5 @@
 -- The shape decides between 2 and 1.
-use mathlib.Core.Path.{refl, _∙_}
+use mathlib.Core.Path.{_∙_}
 use Rattle.point_store_c.specs.ExportedStoreLaws.{short-allowed, short-refused}
 use borrow.Author.Needs.{needs}
 use Rattle.point_store_c.proofs.opening.short_record.Statement.{statement}

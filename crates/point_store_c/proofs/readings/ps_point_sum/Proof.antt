@@ -1,5 +1,4 @@
 -- What the store's point_sum ensures, carried to the return value.
-use mathlib.Core.List.{[]}
 use Rattle.store_definitions.specs.Answers.{doneMeans}
 use Rattle.float_bits.specs.Rows.{addScaled}
 use Rattle.float_bits.specs.Words.{floatOf, plusZero}
