@@ -1,0 +1,4 @@
+pub mod Reborrow
+pub mod Slices
+pub mod Locals
+pub mod Branches
