@@ -95,8 +95,9 @@ module _ (s : Store) (m : Memory ℕ) (r : PairStep) where
     filled = refilled (m .store) (m .lastKnownShingle) (pointStore s k) .memory
 
     pub next-comes : outcome (doneMeans (d .answer)) (pointStore (d .store) k) ≡ pairSpec (pointStore s (elementless m)) q → Holds r (d .store) (afterPairs n (doneMeans (d .answer))) → comesTo r filled (adjustFrom n (q ∷ []) whole)
-    next-comes e h =
-        (h .0,
-        ap₂ (λ (a : Answer) (t : Store). outcome a (pointStore t filled)) (h .1 .1) (h .1 .0)
-        ∙ ap (λ (o : Outcome (Unit {0})). refilledOutcome (m .store) (m .lastKnownShingle) o) (told (pointStore s (elementless m)) q n _ e)
-        ∙ from-refilled (m .store) (m .lastKnownShingle) n (q ∷ []) (pointStore s (elementless m)))
+    next-comes e h = (
+      h .0,
+      ap₂ (λ (a : Answer) (t : Store). outcome a (pointStore t filled)) (h .1 .1) (h .1 .0)
+          ∙ ap (λ (o : Outcome (Unit {0})). refilledOutcome (m .store) (m .lastKnownShingle) o) (told (pointStore s (elementless m)) q n _ e)
+          ∙ from-refilled (m .store) (m .lastKnownShingle) n (q ∷ []) (pointStore s (elementless m)),
+    )

@@ -88,16 +88,55 @@ abbrev widths : List Width
 widths = w32 ∷ w32 ∷ w16 ∷ w16 ∷ w16 ∷ w16 ∷ w8 ∷ w16 ∷ w16 ∷ w16 ∷ w16 ∷ w8 ∷ w32 ∷ w16 ∷ w16 ∷ []
 
 abbrev stayed : Stays (this.ended .signature .params) (this.ended .kept)
-stayed =
-    (stay-none (λ _. S.the-row) yes, (stay-slice (0 ∷ []) tt (plain (λ _. u32)),
-    (stay-slice (1 ∷ []) tt (plain (λ _. u32)), (stay-slice (2 ∷ []) tt (plain (λ _. u16)),
-    (stay-slice (3 ∷ []) tt (plain (λ _. u16)), (stay-slice (4 ∷ []) tt (plain (λ _. u16)),
-    (stay-slice (5 ∷ []) tt (plain (λ _. u16)), (stay-slice (6 ∷ []) tt (plain (λ _. u8)),
-    (stay-slice (7 ∷ []) tt (plain (λ _. u16)), (stay-slice (8 ∷ []) tt (plain (λ _. u16)),
-    (stay-slice (9 ∷ []) tt (plain (λ _. u16)), (stay-slice (10 ∷ []) tt (plain (λ _. u16)),
-    (stay-slice (11 ∷ []) tt (plain (λ _. u8)), (stay-slice (12 ∷ []) tt (plain (λ _. u32)),
-    (stay-slice (13 ∷ []) tt (plain (λ _. u16)), (stay-slice (14 ∷ []) tt (plain (λ _. u16)),
-    (stay-none-slice (15 ∷ []) tt (plain (λ _. P.the-row)) yes, tt)))))))))))))))))
+stayed = (
+  stay-none (λ _. S.the-row) yes,
+  (
+    stay-slice (0 ∷ []) tt (plain (λ _. u32)),
+    (
+      stay-slice (1 ∷ []) tt (plain (λ _. u32)),
+      (
+        stay-slice (2 ∷ []) tt (plain (λ _. u16)),
+        (
+          stay-slice (3 ∷ []) tt (plain (λ _. u16)),
+          (
+            stay-slice (4 ∷ []) tt (plain (λ _. u16)),
+            (
+              stay-slice (5 ∷ []) tt (plain (λ _. u16)),
+              (
+                stay-slice (6 ∷ []) tt (plain (λ _. u8)),
+                (
+                  stay-slice (7 ∷ []) tt (plain (λ _. u16)),
+                  (
+                    stay-slice (8 ∷ []) tt (plain (λ _. u16)),
+                    (
+                      stay-slice (9 ∷ []) tt (plain (λ _. u16)),
+                      (
+                        stay-slice (10 ∷ []) tt (plain (λ _. u16)),
+                        (
+                          stay-slice (11 ∷ []) tt (plain (λ _. u8)),
+                          (
+                            stay-slice (12 ∷ []) tt (plain (λ _. u32)),
+                            (
+                              stay-slice (13 ∷ []) tt (plain (λ _. u16)),
+                              (
+                                stay-slice (14 ∷ []) tt (plain (λ _. u16)),
+                                (stay-none-slice (15 ∷ []) tt (plain (λ _. P.the-row)) yes, tt),
+                              ),
+                            ),
+                          ),
+                        ),
+                      ),
+                    ),
+                  ),
+                ),
+              ),
+            ),
+          ),
+        ),
+      ),
+    ),
+  ),
+)
 
 -- the contracts of the two steps
 abbrev First : {M : Type 1} (𝓤 : URA M) (H : Heap 𝓤) (A : Atoms 𝓤) (mem : Ram → SProp 𝓤) (run : Routine → Fun 𝓤) → Contract 𝓤
@@ -120,11 +159,11 @@ spelled =
       outlives = [];
       params = 17;
       locals =
-        local Res′.mir valueLocal ∷ local S′.mir valueLocal ∷ locals (paramsAt widths 0)
-        (local pairs-ty valueLocal ∷ local D′.mir valueLocal ∷ local word valueLocal ∷ local P′.mir valueLocal
-        ∷ locals (lentAt widths)
-        (local tyBool valueLocal ∷ local word valueLocal ∷ local tyBool valueLocal ∷ local tyPtr valueLocal ∷ local P′.mir valueLocal
-        ∷ locals (lentAt widths) []));
+          local Res′.mir valueLocal ∷ local S′.mir valueLocal ∷ locals (paramsAt widths 0)
+          (local pairs-ty valueLocal ∷ local D′.mir valueLocal ∷ local word valueLocal ∷ local P′.mir valueLocal
+          ∷ locals (lentAt widths)
+          (local tyBool valueLocal ∷ local word valueLocal ∷ local tyBool valueLocal ∷ local tyPtr valueLocal ∷ local P′.mir valueLocal
+          ∷ locals (lentAt widths) []));
       body = code-mir.t-1;
     }
 
@@ -251,9 +290,16 @@ module _ {M : Type 1} (𝓤 : URA M) (H : Heap 𝓤) (A : Atoms 𝓤) (W : Given
   passed s ls i p δs = (s, lent-refs slots δs ls (i, (p .insert .index .0, (p .insert .label .0, (p .delete .index .0, (p .delete .label .0, tt))))))
 
   abbrev to-next : Store → Lists slots → ℕ → Pair → ℕ → Names slots → Next 𝓤 H A mem run .Ghost
-  to-next s ls i p ν δs =
-      (((ν ∷ [], tt), (fullShare, tt), tt, passed s ls i p δs,
-      (store-vals s, values slots (vint w64 i ∷ [], (vint w64 (p .insert .index .0) ∷ [], (vint w64 (p .insert .label .0) ∷ [], (vint w64 (p .delete .index .0) ∷ [], (vint w64 (p .delete .label .0) ∷ [], tt))))))), tt)
+  to-next s ls i p ν δs = (
+    (
+      (ν ∷ [], tt),
+      (fullShare, tt),
+      tt,
+      passed s ls i p δs,
+      (store-vals s, values slots (vint w64 i ∷ [], (vint w64 (p .insert .index .0) ∷ [], (vint w64 (p .insert .label .0) ∷ [], (vint w64 (p .delete .index .0) ∷ [], (vint w64 (p .delete .label .0) ∷ [], tt)))))),
+    ),
+    tt,
+  )
 
   goes-next : (s : Store) (ls : Lists slots) (i : ℕ) (p : Pair) → Is S.the-row s (store-vals s) → wellFormed (pointStore s (memoryOf ls)) ≡ true → (ν : ℕ) (δs : Names slots) → ent 𝓤 (sep 𝓤 (A .lft (ν ∷ []) fullShare) (sem 𝓤 H A (chain (given slots (ν ∷ []) δs ls) (chain (words (numbers i p)) ftrue)))) (Next 𝓤 H A mem run .pre (to-next s ls i p ν δs))
   goes-next s ls i p gs formed ν δs =
@@ -474,44 +520,177 @@ module _ {M : Type 1} (𝓤 : URA M) (H : Heap 𝓤) (A : Atoms 𝓤) (W : Given
   walks fm first-known next-known =
       subst (λ (f : Fn). Walks 𝓤 H A this.ended stayed (WpFn 𝓤 H (𝓣 .C) (𝓣 .Λ) f) (this.clauses 𝓤 H A mem run)) spelled-is
       (walked 𝓤 H A this.ended stayed (this.clauses 𝓤 H A mem run) (WpFn 𝓤 H (𝓣 .C) (𝓣 .Λ) spelled)
-      (λ κs.
-      (store-vals, (slice-vals, (slice-vals, (slice-vals, (slice-vals, (slice-vals, (slice-vals, (slice-vals, (slice-vals,
-      (slice-vals, (slice-vals, (slice-vals, (slice-vals, (slice-vals, (slice-vals, (slice-vals, (slice-vals, tt))))))))))))))))))
-      (λ κs.
-      (S′.lowers .val-is, (mut-slice-tells (named 0) (κs .0) u32, (mut-slice-tells (named 1) (κs .1 .0) u32,
-      (mut-slice-tells (named 2) (κs .1 .1 .0) u16, (mut-slice-tells (named 3) (κs .1 .1 .1 .0) u16,
-      (mut-slice-tells (named 4) (κs .1 .1 .1 .1 .0) u16, (mut-slice-tells (named 5) (κs .1 .1 .1 .1 .1 .0) u16,
-      (mut-slice-tells (named 6) (κs .1 .1 .1 .1 .1 .1 .0) u8, (mut-slice-tells (named 7) (κs .1 .1 .1 .1 .1 .1 .1 .0) u16,
-      (mut-slice-tells (named 8) (κs .1 .1 .1 .1 .1 .1 .1 .1 .0) u16,
-      (mut-slice-tells (named 9) (κs .1 .1 .1 .1 .1 .1 .1 .1 .1 .0) u16,
-      (mut-slice-tells (named 10) (κs .1 .1 .1 .1 .1 .1 .1 .1 .1 .1 .0) u16,
-      (mut-slice-tells (named 11) (κs .1 .1 .1 .1 .1 .1 .1 .1 .1 .1 .1 .0) u8,
-      (mut-slice-tells (named 12) (κs .1 .1 .1 .1 .1 .1 .1 .1 .1 .1 .1 .1 .0) u32,
-      (mut-slice-tells (named 13) (κs .1 .1 .1 .1 .1 .1 .1 .1 .1 .1 .1 .1 .1 .0) u16,
-      (mut-slice-tells (named 14) (κs .1 .1 .1 .1 .1 .1 .1 .1 .1 .1 .1 .1 .1 .1 .0) u16,
-      (shr-slice-tells (named 15) (κs .1 .1 .1 .1 .1 .1 .1 .1 .1 .1 .1 .1 .1 .1 .1 .0) P.the-row, tt))))))))))))))))))
+      (λ κs. (
+        store-vals,
+        (
+          slice-vals,
+          (
+            slice-vals,
+            (
+              slice-vals,
+              (
+                slice-vals,
+                (
+                  slice-vals,
+                  (
+                    slice-vals,
+                    (
+                      slice-vals,
+                      (
+                        slice-vals,
+                        (slice-vals, (slice-vals, (slice-vals, (slice-vals, (slice-vals, (slice-vals, (slice-vals, (slice-vals, tt)))))))),
+                      ),
+                    ),
+                  ),
+                ),
+              ),
+            ),
+          ),
+        ),
+      ))
+      (λ κs. (
+        S′.lowers .val-is,
+        (
+          mut-slice-tells (named 0) (κs .0) u32,
+          (
+            mut-slice-tells (named 1) (κs .1 .0) u32,
+            (
+              mut-slice-tells (named 2) (κs .1 .1 .0) u16,
+              (
+                mut-slice-tells (named 3) (κs .1 .1 .1 .0) u16,
+                (
+                  mut-slice-tells (named 4) (κs .1 .1 .1 .1 .0) u16,
+                  (
+                    mut-slice-tells (named 5) (κs .1 .1 .1 .1 .1 .0) u16,
+                    (
+                      mut-slice-tells (named 6) (κs .1 .1 .1 .1 .1 .1 .0) u8,
+                      (
+                        mut-slice-tells (named 7) (κs .1 .1 .1 .1 .1 .1 .1 .0) u16,
+                        (
+                          mut-slice-tells (named 8) (κs .1 .1 .1 .1 .1 .1 .1 .1 .0) u16,
+                          (
+                            mut-slice-tells (named 9) (κs .1 .1 .1 .1 .1 .1 .1 .1 .1 .0) u16,
+                            (
+                              mut-slice-tells (named 10) (κs .1 .1 .1 .1 .1 .1 .1 .1 .1 .1 .0) u16,
+                              (
+                                mut-slice-tells (named 11) (κs .1 .1 .1 .1 .1 .1 .1 .1 .1 .1 .1 .0) u8,
+                                (
+                                  mut-slice-tells (named 12) (κs .1 .1 .1 .1 .1 .1 .1 .1 .1 .1 .1 .1 .0) u32,
+                                  (
+                                    mut-slice-tells (named 13) (κs .1 .1 .1 .1 .1 .1 .1 .1 .1 .1 .1 .1 .1 .0) u16,
+                                    (
+                                      mut-slice-tells (named 14) (κs .1 .1 .1 .1 .1 .1 .1 .1 .1 .1 .1 .1 .1 .1 .0) u16,
+                                      (shr-slice-tells (named 15) (κs .1 .1 .1 .1 .1 .1 .1 .1 .1 .1 .1 .1 .1 .1 .1 .0) P.the-row, tt),
+                                    ),
+                                  ),
+                                ),
+                              ),
+                            ),
+                          ),
+                        ),
+                      ),
+                    ),
+                  ),
+                ),
+              ),
+            ),
+          ),
+        ),
+      ))
       (λ κs qs bounds a g are. via 𝓤 _ (fst∗ 𝓤 _ (emp 𝓤))
-      (walk 𝓤 H A W mem run κs qs (a .0) (a .1) 𝓣 fm first-known next-known (are .0) (are .1 .1 .1 .1 .1 .1 .1 .1 .1 .1 .1 .1 .1 .1 .1 .1 .0 .0 .1)
-      (are .1 .0 .0 .1, (are .1 .1 .0 .0 .1, (are .1 .1 .1 .0 .0 .1, (are .1 .1 .1 .1 .0 .0 .1,
-      (are .1 .1 .1 .1 .1 .0 .0 .1, (are .1 .1 .1 .1 .1 .1 .0 .0 .1, (are .1 .1 .1 .1 .1 .1 .1 .0 .0 .1,
-      (are .1 .1 .1 .1 .1 .1 .1 .1 .0 .0 .1, (are .1 .1 .1 .1 .1 .1 .1 .1 .1 .0 .0 .1,
-      (are .1 .1 .1 .1 .1 .1 .1 .1 .1 .1 .0 .0 .1, (are .1 .1 .1 .1 .1 .1 .1 .1 .1 .1 .1 .0 .0 .1,
-      (are .1 .1 .1 .1 .1 .1 .1 .1 .1 .1 .1 .1 .0 .0 .1, (are .1 .1 .1 .1 .1 .1 .1 .1 .1 .1 .1 .1 .1 .0 .0 .1,
-      (are .1 .1 .1 .1 .1 .1 .1 .1 .1 .1 .1 .1 .1 .1 .0 .0 .1, (are .1 .1 .1 .1 .1 .1 .1 .1 .1 .1 .1 .1 .1 .1 .1 .0 .0 .1, tt))))))))))))))))))
+      (walk 𝓤 H A W mem run κs qs (a .0) (a .1) 𝓣 fm first-known next-known (are .0) (are .1 .1 .1 .1 .1 .1 .1 .1 .1 .1 .1 .1 .1 .1 .1 .1 .0 .0 .1) (
+        are .1 .0 .0 .1,
+        (
+          are .1 .1 .0 .0 .1,
+          (
+            are .1 .1 .1 .0 .0 .1,
+            (
+              are .1 .1 .1 .1 .0 .0 .1,
+              (
+                are .1 .1 .1 .1 .1 .0 .0 .1,
+                (
+                  are .1 .1 .1 .1 .1 .1 .0 .0 .1,
+                  (
+                    are .1 .1 .1 .1 .1 .1 .1 .0 .0 .1,
+                    (
+                      are .1 .1 .1 .1 .1 .1 .1 .1 .0 .0 .1,
+                      (
+                        are .1 .1 .1 .1 .1 .1 .1 .1 .1 .0 .0 .1,
+                        (
+                          are .1 .1 .1 .1 .1 .1 .1 .1 .1 .1 .0 .0 .1,
+                          (
+                            are .1 .1 .1 .1 .1 .1 .1 .1 .1 .1 .1 .0 .0 .1,
+                            (
+                              are .1 .1 .1 .1 .1 .1 .1 .1 .1 .1 .1 .1 .0 .0 .1,
+                              (
+                                are .1 .1 .1 .1 .1 .1 .1 .1 .1 .1 .1 .1 .1 .0 .0 .1,
+                                (are .1 .1 .1 .1 .1 .1 .1 .1 .1 .1 .1 .1 .1 .1 .0 .0 .1, (are .1 .1 .1 .1 .1 .1 .1 .1 .1 .1 .1 .1 .1 .1 .1 .0 .0 .1, tt)),
+                              ),
+                            ),
+                          ),
+                        ),
+                      ),
+                    ),
+                  ),
+                ),
+              ),
+            ),
+          ),
+        ),
+      ))))
 
 meets : {M : Type 1} (𝓤 : URA M) (H : Heap 𝓤) (A : Atoms 𝓤) → Given 𝓤 H A → (mem : Ram → SProp 𝓤) (run : Routine → Fun 𝓤) (𝓣 : Tables 𝓤 H) → Triple 𝓤 (𝓣 .C #first-step) (First 𝓤 H A mem run) → Triple 𝓤 (𝓣 .C #next-step) (Next 𝓤 H A mem run)
     → Meets 𝓤 H A this.signature (WpFn 𝓤 H (𝓣 .C) (𝓣 .Λ) code.function) (this.spec 𝓤 H A mem run)
 meets 𝓤 H A W mem run 𝓣 first-known next-known =
-    walk-meets 𝓤 H A this.ended stayed W
-    (goes-none 𝓤 H A W 16 (λ _. S.the-row) yes (λ κs x f. refl), (goes-slice 𝓤 H A W 16 0 tt (plain (λ _. u32)),
-    (goes-slice 𝓤 H A W 16 1 tt (plain (λ _. u32)), (goes-slice 𝓤 H A W 16 2 tt (plain (λ _. u16)),
-    (goes-slice 𝓤 H A W 16 3 tt (plain (λ _. u16)), (goes-slice 𝓤 H A W 16 4 tt (plain (λ _. u16)),
-    (goes-slice 𝓤 H A W 16 5 tt (plain (λ _. u16)), (goes-slice 𝓤 H A W 16 6 tt (plain (λ _. u8)),
-    (goes-slice 𝓤 H A W 16 7 tt (plain (λ _. u16)), (goes-slice 𝓤 H A W 16 8 tt (plain (λ _. u16)),
-    (goes-slice 𝓤 H A W 16 9 tt (plain (λ _. u16)), (goes-slice 𝓤 H A W 16 10 tt (plain (λ _. u16)),
-    (goes-slice 𝓤 H A W 16 11 tt (plain (λ _. u8)), (goes-slice 𝓤 H A W 16 12 tt (plain (λ _. u32)),
-    (goes-slice 𝓤 H A W 16 13 tt (plain (λ _. u16)), (goes-slice 𝓤 H A W 16 14 tt (plain (λ _. u16)),
-    (goes-none-slice 𝓤 H A W 16 (15 ∷ []) tt (plain (λ _. P.the-row)) yes, tt)))))))))))))))))
+    walk-meets 𝓤 H A this.ended stayed W (
+      goes-none 𝓤 H A W 16 (λ _. S.the-row) yes (λ κs x f. refl),
+      (
+        goes-slice 𝓤 H A W 16 0 tt (plain (λ _. u32)),
+        (
+          goes-slice 𝓤 H A W 16 1 tt (plain (λ _. u32)),
+          (
+            goes-slice 𝓤 H A W 16 2 tt (plain (λ _. u16)),
+            (
+              goes-slice 𝓤 H A W 16 3 tt (plain (λ _. u16)),
+              (
+                goes-slice 𝓤 H A W 16 4 tt (plain (λ _. u16)),
+                (
+                  goes-slice 𝓤 H A W 16 5 tt (plain (λ _. u16)),
+                  (
+                    goes-slice 𝓤 H A W 16 6 tt (plain (λ _. u8)),
+                    (
+                      goes-slice 𝓤 H A W 16 7 tt (plain (λ _. u16)),
+                      (
+                        goes-slice 𝓤 H A W 16 8 tt (plain (λ _. u16)),
+                        (
+                          goes-slice 𝓤 H A W 16 9 tt (plain (λ _. u16)),
+                          (
+                            goes-slice 𝓤 H A W 16 10 tt (plain (λ _. u16)),
+                            (
+                              goes-slice 𝓤 H A W 16 11 tt (plain (λ _. u8)),
+                              (
+                                goes-slice 𝓤 H A W 16 12 tt (plain (λ _. u32)),
+                                (
+                                  goes-slice 𝓤 H A W 16 13 tt (plain (λ _. u16)),
+                                  (
+                                    goes-slice 𝓤 H A W 16 14 tt (plain (λ _. u16)),
+                                    (goes-none-slice 𝓤 H A W 16 (15 ∷ []) tt (plain (λ _. P.the-row)) yes, tt),
+                                  ),
+                                ),
+                              ),
+                            ),
+                          ),
+                        ),
+                      ),
+                    ),
+                  ),
+                ),
+              ),
+            ),
+          ),
+        ),
+      ),
+    )
     (this.clauses 𝓤 H A mem run) (WpFn 𝓤 H (𝓣 .C) (𝓣 .Λ) code.function) (WpFn-mono 𝓤 H (W .laws) 𝓣 code.function)
     (walks 𝓤 H A W mem run 𝓣 (fmOf 𝓤 H (W .laws) 𝓣) first-known next-known)
 
