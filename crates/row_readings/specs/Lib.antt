@@ -1,0 +1,3 @@
+pub mod EqualityLaws
+pub mod Items
+pub mod SumLaws
