@@ -59,7 +59,7 @@ fn going_step(adds: bool, next: usize) -> SumStep
 }
 
 // The check and the output's length. A sum of no item is done here.
-pub fn first_step<'a>(
+pub fn first_step(
     s: Store,
     store: &[FloatBits],
     last_known_shingle: &[FloatBits],
@@ -77,7 +77,7 @@ pub fn first_step<'a>(
     attribute_starts: &[u16],
     attribute_ends: &[u16],
     count: usize,
-    out: &'a mut [f32],
+    out: &mut [f32],
 ) -> SumStep
     ensures { λ r. ⌜ stateOf r (now (out .exit)) ≡ begun (floatOf plusZero) (wellFormed (pointStore s (entered store «last_known_shingle» «reference_count» location «index_starts» «index_ends» labels «label_attributes» «label_count» «label_starts» «label_ends» attributes «attribute_count» «attribute_starts» «attribute_ends»))) (eqb (length (now (out .entry))) (s .dimensions)) count (now (out .entry)) ⌝ }
 {
@@ -114,7 +114,7 @@ pub fn first_step<'a>(
 }
 
 // A turn of either pass. After the last item of the first the output is cleared for the second.
-pub fn next_step<'a>(
+pub fn next_step(
     s: Store,
     store: &[FloatBits],
     reference_count: &[u16],
@@ -124,7 +124,7 @@ pub fn next_step<'a>(
     count: usize,
     index: usize,
     weight: usize,
-    out: &'a mut [f32],
+    out: &mut [f32],
 ) -> SumStep
     requires { ⌜ (next < count) × ((adds ≡ true → (length (now out) ≡ s .dimensions) × Addable s (length (now store)) (now location) (weighted index weight))) ⌝ }
     ensures { λ r. ⌜ stateOf r (now (out .exit)) ≡ turned (floatOf plusZero) adds next count (itemsDecided (pointStore s (countsAlone (now («reference_count» .entry)) [])) (weighted index weight ∷ [])) (addScaled weight (now (out .entry)) (storedRow (pointStore s (rowsAlone (now (store .entry)) (now (location .entry)))) index)) (now (out .entry)) ⌝ }
