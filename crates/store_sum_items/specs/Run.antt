@@ -245,7 +245,7 @@ module _ {E S : Type 0} (add : ℕ → List S → List E → List S) (zeroSum : 
         ),
       )
 
-      abbrev turn : SumState S
+      abbrev pub turn : SumState S
       turn =
           turned zeroSum adds i n (itemsDecided (pointStore (p .header) (countsAlone (p .memory .referenceCount) [])) (this ∷ []))
           (add (this .weight) out (storedRow (pointStore (p .header) (rowsAlone (p .memory .store) (p .memory .location))) (this .index))) out

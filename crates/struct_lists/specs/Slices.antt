@@ -205,6 +205,19 @@ abbrev pub values : {X : Type 0} (zs : List Slot) → X → Args (λ k. List Val
 values [] x = x
 values (z ∷ zs) x = (value z ∷ [], values zs x)
 
+-- the slices' own names; their lifetimes and the shares of them, before others
+abbrev pub names : (zs : List Slot) → Names zs
+names [] = tt
+names (z ∷ zs) = (z .name, names zs)
+
+abbrev pub lives : {X : Type 0} (zs : List Slot) → X → Args (λ k. Lft) zs X
+lives [] x = x
+lives (z ∷ zs) x = (z .life, lives zs x)
+
+abbrev pub shares : {X : Type 0} (zs : List Slot) → X → Args (λ k. Share) zs X
+shares [] x = x
+shares (z ∷ zs) x = (z .share, shares zs x)
+
 -- lists before other things, and without them; that they are long enough, before other things
 abbrev pub listed : {X : Type 0} (zs : List Slot) → Lists zs → X → Args Elements zs X
 listed [] ls x = x
@@ -231,10 +244,10 @@ abbrev pub Fit : List ℕ → Type 0
 Fit [] = Unit {0}
 Fit (n ∷ ns) = (n < 2 ^ 64) × Fit ns
 
-pub own-words : {M : Type 1} {𝓤 : URA M} {H : Heap 𝓤} {A : Atoms 𝓤} {K : Type 0} {W : Given 𝓤 H A} {Γ : List (Item 𝓤)} {G : Goal 𝓤 H} → K → (ns : List ℕ) → Fit ns → Step K W (‵ (chain (words ns) ftrue) ∷ Γ) G Γ G
-own-words t [] fit = step (λ s. nothing t $ s)
-own-words {𝓤 = 𝓤} {H = H} {A = A} {W = W} t (n ∷ ns) fit =
-    step (λ s. own-words t ns (fit .1) $ makes t usize (Is usize) (uint-makes 𝓤 H A W w64) n (vint w64 n ∷ []) (refl, fit .0) $ fjoin t $ s)
+pub own-words : {M : Type 1} {𝓤 : URA M} {H : Heap 𝓤} {A : Atoms 𝓤} {K : Type 0} {W : Given 𝓤 H A} {Γ : List (Item 𝓤)} {G : Goal 𝓤 H} → K → (ns : List ℕ) → Fit ns → (last : Fml) → Step K W (‵ (chain (words ns) last) ∷ Γ) G (‵ last ∷ Γ) G
+own-words t [] fit last = step (λ s. s)
+own-words {𝓤 = 𝓤} {H = H} {A = A} {W = W} t (n ∷ ns) fit last =
+    step (λ s. own-words t ns (fit .1) last $ makes t usize (Is usize) (uint-makes 𝓤 H A W w64) n (vint w64 n ∷ []) (refl, fit .0) $ fjoin t $ s)
 
 -- parameters of which a contract says nothing at the exit
 abbrev pub silent : ℕ → List Fml
