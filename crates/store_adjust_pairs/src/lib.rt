@@ -1,6 +1,6 @@
 // Adjust over the caller's own records: a lent slice of pair structs, walked by a thin loop over covered functions that take plain
 // numbers. What it does is what `adjust_plain` does on the same numbers.
-ghost use mathlib.Core.Bool.{Bool, true};
+ghost use mathlib.Core.Bool.{true};
 ghost use mathlib.Core.List.{[], _∷_};
 ghost use mathlib.Core.Path.{_≡_};
 ghost use Rattle.store_definitions.specs.Answers.{outcome, adjustedMeans, doneMeans};

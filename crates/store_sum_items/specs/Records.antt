@@ -4,7 +4,6 @@ use mathlib.Core.List.{List, [], _∷_}
 use mathlib.Core.Path.{_≡_, refl, ap}
 use Rattle.store_definitions.specs.declared.Item.{Item}
 use Rattle.store_definitions.specs.Memory.{PointStore}
-use Rattle.store_definitions.specs.Answers.{Output}
 use Rattle.store_definitions.specs.Sums.{Weighted, pointSumSpec}
 use Rattle.row_readings.specs.Items.{weighted, weightings}
 

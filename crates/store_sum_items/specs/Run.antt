@@ -8,7 +8,6 @@ use mathlib.Core.Bool.{Bool, true, false, cond}
 use mathlib.Core.List.{List, [], _∷_}
 use mathlib.Core.Path.{_≡_, refl, sym, _∙_, ap, ap₂, subst}
 use lib.Dec.{T, ltb, eqb}
-use lib.Ieee.{Float}
 use lib.ListN.{length, getD, drop, replicate, drop-of-length-le}
 use lib.Seq.{drop-cons}
 use borrow.Author.Tests.{eq-eqb, eqb-true, eqb-false, lt-ltb, le-ltb, ltb-true, ltb-false}
@@ -23,7 +22,7 @@ use Rattle.store_laws.specs.DecisionLaws.{both-go}
 use Rattle.store_rows.specs.Copying.{readable}
 use Rattle.store_counts.specs.ReadingLaws.{well}
 use Rattle.store_counts.specs.Tables.{countsAlone}
-use Rattle.row_readings.specs.Items.{rowsAlone, Addable, checkedSum}
+use Rattle.row_readings.specs.Items.{rowsAlone, Addable}
 use Rattle.row_readings.specs.SumLaws.{items-alone, first-decided, first-added, addable, sum-checked, sum-ill, sum-length}
 use Rattle.store_sum_items.specs.Records.{weightingOf, weightingsOf}
 use Rattle.store_sum_items.specs.Steps.{SumState, state, begun, turned}
