@@ -36,7 +36,7 @@ pub fn read(n: usize) -> usize {
     n
 }
 
-fn told(value: usize, count: usize, a: usize) -> Told {
+fn one_number(value: usize, count: usize, a: usize) -> Told {
     Told {
         value,
         count,
@@ -50,29 +50,29 @@ fn told(value: usize, count: usize, a: usize) -> Told {
 
 pub fn of_done(d: Done) -> Told {
     match d {
-        Done::Done => told(0, 0, 0),
-        Done::Refused(r) => told(refusal_number(r) as usize, 0, 0),
+        Done::Done => one_number(0, 0, 0),
+        Done::Refused(r) => one_number(refusal_number(r) as usize, 0, 0),
     }
 }
 
 pub fn of_number(n: Number) -> Told {
     match n {
-        Number::Is(k) => told(0, 1, k),
-        Number::Refused(r) => told(refusal_number(r) as usize, 0, 0),
+        Number::Is(k) => one_number(0, 1, k),
+        Number::Refused(r) => one_number(refusal_number(r) as usize, 0, 0),
     }
 }
 
 pub fn of_equality(q: Equality) -> Told {
     match q {
-        Equality::Is(b) => told(0, 1, b as usize),
-        Equality::Refused(r) => told(refusal_number(r) as usize, 0, 0),
+        Equality::Is(b) => one_number(0, 1, b as usize),
+        Equality::Refused(r) => one_number(refusal_number(r) as usize, 0, 0),
     }
 }
 
 pub fn of_adjusted(a: Adjusted) -> Told {
     match a {
-        Adjusted::Done => told(0, 0, 0),
-        Adjusted::Refused(r, before) => told(refusal_number(r) as usize, 1, before),
+        Adjusted::Done => one_number(0, 0, 0),
+        Adjusted::Refused(r, before) => one_number(refusal_number(r) as usize, 1, before),
     }
 }
 
@@ -108,40 +108,58 @@ fn of_kept(k: Kept) -> Told {
 pub fn of_added(a: Added) -> Told {
     match a {
         Added::Kept(k) => of_kept(k),
-        Added::Waiting => told(0, 1, 0),
-        Added::Refused(r) => told(refusal_number(r) as usize, 0, 0),
+        Added::Waiting => one_number(0, 1, 0),
+        Added::Refused(r) => one_number(refusal_number(r) as usize, 0, 0),
     }
+}
+
+// A word as a number, 0 past the end.
+fn word_at(words: &[u32], i: usize) -> usize {
+    if i < words.len() {
+        return words[i] as usize;
+    }
+    0
 }
 
 // Words of floats as numbers.
 pub fn from_words(words: &[u32], out: &mut [usize]) {
     let mut i = 0;
     while i < out.len() {
-        if i < words.len() {
-            out[i] = words[i] as usize;
-        }
+        out[i] = word_at(words, i);
         i += 1;
     }
+}
+
+// A number, 0 past the end.
+pub fn number_in(numbers: &[usize], i: usize) -> usize {
+    if i < numbers.len() {
+        return numbers[i];
+    }
+    0
 }
 
 // Numbers as words of floats: their last 32 bits.
 pub fn to_words(numbers: &[usize], words: &mut [u32]) {
     let mut i = 0;
     while i < words.len() {
-        if i < numbers.len() {
-            words[i] = numbers[i] as u32;
-        }
+        words[i] = number_in(numbers, i) as u32;
         i += 1;
     }
+}
+
+// The number of a float's word, 0 past the end.
+fn float_at(floats: &[f32], i: usize) -> usize {
+    if i < floats.len() {
+        return word_of_float(floats[i]) as usize;
+    }
+    0
 }
 
 // Floats as the numbers of their words.
 pub fn from_floats(floats: &[f32], out: &mut [usize]) {
     let mut i = 0;
     while i < out.len() {
-        if i < floats.len() {
-            out[i] = word_of_float(floats[i]) as usize;
-        }
+        out[i] = float_at(floats, i);
         i += 1;
     }
 }
