@@ -1,3 +1,4 @@
+use borrow.Author.Needs.{needs}
 use Prim.Native.Nat.{_≤_, _-_}
 use Rattle.replay.proofs.tally.print_summary.Statement.{statement}
 use Rattle.replay.proofs.tally.print_summary.Tie as tie
