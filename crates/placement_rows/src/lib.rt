@@ -26,6 +26,7 @@ pub use overlap::row_joins;
 pub use rows::head;
 pub use rows::move_window;
 pub use rows::row;
+pub use words::copy_from;
 pub use words::fill;
 
 // The place of an index that has no point, and the index of a place where none stands.

@@ -1,0 +1,3 @@
+pub mod Shingled
+pub mod Previews
+pub mod IndexReadings
