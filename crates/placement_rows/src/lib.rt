@@ -14,6 +14,7 @@ mod words;
 
 pub use compaction::compact;
 pub use copying::copy;
+pub use copying::turned_by;
 pub use growth::fill_table;
 pub use growth::grow_store;
 pub use growth::grow_table;

@@ -1,3 +1,6 @@
 pub mod Shingled
 pub mod Previews
 pub mod IndexReadings
+pub mod EqualityLaws
+pub mod Items
+pub mod SumLaws
