@@ -7,6 +7,7 @@ use store_definitions::Store;
 
 mod change;
 mod opening;
+mod others;
 mod reading;
 
 pub use change::add_row;
@@ -15,6 +16,14 @@ pub use change::compact_block;
 pub use change::dec_point;
 pub use change::inc_point;
 pub use opening::open_block;
+pub use others::attributes_of;
+pub use others::class_of;
+pub use others::code_of;
+pub use others::equal_point;
+pub use others::missing_of;
+pub use others::next_of;
+pub use others::preview_of;
+pub use others::sum_points;
 pub use reading::copy_point;
 pub use reading::count_point;
 pub use reading::free_start_of;

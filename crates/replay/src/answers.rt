@@ -1,6 +1,5 @@
 // Answers of the store in the record's numbers.
 use crate::record::NONE_WRITTEN;
-use float_bits::word_of_float;
 use placement::Laid;
 use store_definitions::Added;
 use store_definitions::Adjusted;
@@ -110,56 +109,5 @@ pub fn of_added(a: Added) -> Told {
         Added::Kept(k) => of_kept(k),
         Added::Waiting => one_number(0, 1, 0),
         Added::Refused(r) => one_number(refusal_number(r) as usize, 0, 0),
-    }
-}
-
-// A word as a number, 0 past the end.
-fn word_at(words: &[u32], i: usize) -> usize {
-    if i < words.len() {
-        return words[i] as usize;
-    }
-    0
-}
-
-// Words of floats as numbers.
-pub fn from_words(words: &[u32], out: &mut [usize]) {
-    let mut i = 0;
-    while i < out.len() {
-        out[i] = word_at(words, i);
-        i += 1;
-    }
-}
-
-// A number, 0 past the end.
-pub fn number_in(numbers: &[usize], i: usize) -> usize {
-    if i < numbers.len() {
-        return numbers[i];
-    }
-    0
-}
-
-// Numbers as words of floats: their last 32 bits.
-pub fn to_words(numbers: &[usize], words: &mut [u32]) {
-    let mut i = 0;
-    while i < words.len() {
-        words[i] = number_in(numbers, i) as u32;
-        i += 1;
-    }
-}
-
-// The number of a float's word, 0 past the end.
-fn float_at(floats: &[f32], i: usize) -> usize {
-    if i < floats.len() {
-        return word_of_float(floats[i]) as usize;
-    }
-    0
-}
-
-// Floats as the numbers of their words.
-pub fn from_floats(floats: &[f32], out: &mut [usize]) {
-    let mut i = 0;
-    while i < out.len() {
-        out[i] = float_at(floats, i);
-        i += 1;
     }
 }

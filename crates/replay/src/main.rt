@@ -1,16 +1,21 @@
 // Replays recorded calls of the Rust's point store on the proved one, and compares every answer, the free start and the number
 // of live points after each call. How the record is made stands in differential/README.md.
 mod answers;
+mod calls;
+mod changing;
+mod lists;
 mod made;
+mod reading;
 mod record;
 mod tally;
+mod words;
 
 use block::Block;
 use block::free_start_of;
 use block::live_points;
 use block::open_block;
+use calls::make;
 use made::Made;
-use made::make;
 use record::Line;
 use record::line_at;
 use recorded_text::count_lines;
@@ -37,9 +42,7 @@ fn agrees(line: Line, made: Made) -> bool {
     if made.count != line.answered {
         return false;
     }
-    let given = made.answers;
-    let recorded = line.answers;
-    record::same(&given[..], &recorded[..])
+    record::same_answers(made.answers, line.answers)
 }
 
 fn rests(line: Line, b: Block) -> bool {

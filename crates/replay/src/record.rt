@@ -1,13 +1,12 @@
 // A line of the record: the call, two arguments, how many numbers it takes and these; then the value (0 or document 01's refusal
 // number), how many numbers it answers and these; then the free start and the number of live points after the call.
+ghost use Prim.Native.Nat.{_≤_};
 use recorded_text::number_at;
-
-// The most numbers that a call takes or answers.
-pub const MOST_NUMBERS: usize = 64;
 
 // What the record writes for none, 2^64 − 1.
 pub const NONE_WRITTEN: usize = 9_999_999_999;
 
+// No call takes or answers more than 64 numbers.
 pub struct Line {
     pub call: usize,
     pub first: usize,
@@ -22,27 +21,31 @@ pub struct Line {
     pub next: usize,
 }
 
-pub fn least(n: usize) -> usize {
-    if n < MOST_NUMBERS {
+// `n`, or `most` if that is less.
+pub fn shorter(n: usize, most: usize) -> usize
+    ensures { λ r. ⌜ r ≤ most ⌝ }
+{
+    if n < most {
         return n;
     }
-    MOST_NUMBERS
+    most
 }
 
-// Reads as many numbers as `out` holds; answers where the next one starts.
-fn numbers_at(text: &[u8], start: usize, out: &mut [usize]) -> usize {
+// Reads `count` numbers, of which `out` holds as many as it can; answers where the next one starts.
+fn numbers_at(text: &[u8], start: usize, count: usize, out: &mut [usize]) -> usize {
+    let n = shorter(count, out.len());
     let mut at = start;
-    let mut i = 0;
-    while i < out.len() {
-        let n = number_at(text, at);
-        out[i] = n.value;
-        at = n.next;
+    let mut i: usize = 0;
+    while i < n {
+        let numeral = number_at(text, at);
+        out[i] = numeral.value;
+        at = numeral.next;
         i += 1;
     }
     at
 }
 
-pub fn same(a: &[usize], b: &[usize]) -> bool {
+fn same(a: &[usize], b: &[usize]) -> bool {
     if a.len() != b.len() {
         return false;
     }
@@ -55,24 +58,29 @@ pub fn same(a: &[usize], b: &[usize]) -> bool {
     ok
 }
 
+// Whether two lists of answers are the same, unused entries too, which are 0.
+pub fn same_answers(a: [usize; 64], b: [usize; 64]) -> bool {
+    same(&a[..], &b[..])
+}
+
 pub fn line_at(text: &[u8], at: usize) -> Line {
     let call = number_at(text, at);
     let first = number_at(text, call.next);
     let second = number_at(text, first.next);
     let taken = number_at(text, second.next);
     let mut numbers = [0usize; 64];
-    let after = numbers_at(text, taken.next, &mut numbers[..least(taken.value)]);
+    let after = numbers_at(text, taken.next, taken.value, &mut numbers[..]);
     let value = number_at(text, after);
     let answered = number_at(text, value.next);
     let mut answers = [0usize; 64];
-    let rest = numbers_at(text, answered.next, &mut answers[..least(answered.value)]);
+    let rest = numbers_at(text, answered.next, answered.value, &mut answers[..]);
     let free = number_at(text, rest);
     let live = number_at(text, free.next);
     Line {
         call: call.value,
         first: first.value,
         second: second.value,
-        taken: least(taken.value),
+        taken: taken.value,
         numbers,
         value: value.value,
         answered: answered.value,
