@@ -3,6 +3,7 @@
 mod coverage;
 mod manager;
 mod mutant;
+mod store;
 
 use std::panic;
 use std::process::ExitCode;
@@ -10,7 +11,12 @@ use std::process::ExitCode;
 fn main() -> ExitCode {
     mutant::announce();
     panic::set_hook(Box::new(|_| {}));
-    match manager::run() {
+    let found = if std::env::var_os("STORE_ALONE").is_some() {
+        store::run()
+    } else {
+        manager::run().and_then(|()| store::run())
+    };
+    match found {
         Ok(()) => {
             println!("no difference");
             ExitCode::SUCCESS
