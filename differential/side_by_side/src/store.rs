@@ -14,6 +14,7 @@ mod memory;
 mod model;
 mod model_readings;
 mod model_rows;
+mod recorded;
 mod rust_side;
 mod short_lists;
 mod sides;
@@ -69,7 +70,7 @@ fn random_lists(seed: u64) -> Result<Coverage, String> {
 }
 
 fn short_lists() -> Result<Coverage, String> {
-    let owed = [&["lists"][..], &kinds::accepted(), &REFUSED];
+    let owed = [&["lists", "compared with the Rust"][..], &kinds::accepted(), &REFUSED];
     let mut coverage = counts("store, every short list over small shapes, beside the Rust", &owed);
     short_lists::every_short_list(if share(100) < 50 { 4 } else { 6 }, &mut coverage)?;
     Ok(coverage)
@@ -85,6 +86,12 @@ fn limits() -> Result<Coverage, String> {
     let mut coverage = counts("store, counts to their limit and back, beside the Rust", &[&owed]);
     limits::counts_to_the_limit(0, &mut coverage)?;
     limits::counts_to_the_limit(1, &mut coverage)?;
+    Ok(coverage)
+}
+
+fn recorded() -> Result<Coverage, String> {
+    let mut coverage = counts("store, the recorded calls of the Rust", &[&["recorded calls"]]);
+    recorded::replayed(&mut coverage)?;
     Ok(coverage)
 }
 
@@ -132,7 +139,7 @@ fn rubbish() -> Result<Coverage, String> {
 pub fn run() -> Result<(), String> {
     let first = thread::spawn(|| random_lists(1));
     let second = thread::spawn(|| -> Result<Vec<Coverage>, String> {
-        let parts = [differences, limits, broken, rubbish, made_up, short_lists];
+        let parts = [differences, recorded, limits, broken, rubbish, made_up, short_lists];
         let mut coverages = parts
             .into_iter()
             .map(|part| part())

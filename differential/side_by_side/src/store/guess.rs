@@ -48,13 +48,9 @@ pub struct Taste {
 }
 
 pub fn any_taste(random: &mut Random) -> Taste {
-    let mut floats = random.below(4);
-    if floats == 2 && mutant::is("harness-knows-no-special-floats") {
-        floats = 1;
-    }
     Taste {
         mood: [Mood::Fill, Mood::Fill, Mood::Drain, Mood::Mixed][random.below(4)],
-        floats,
+        floats: random.below(4),
         refused_in: [6, 12, 40][random.below(3)],
     }
 }
@@ -63,6 +59,7 @@ pub fn any_float(floats: usize, random: &mut Random) -> u32 {
     match floats {
         0 => [0, 0x8000_0000, 0x3f80_0000][random.below(3)],
         1 => (random.below(9) as f32 - 4.0).to_bits(),
+        2 if mutant::is("harness-knows-no-special-floats") => any_float(1, random),
         2 => SPECIAL[random.below(SPECIAL.len())],
         _ => random.number() as u32,
     }

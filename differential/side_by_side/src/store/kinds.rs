@@ -25,7 +25,7 @@ const REFUSALS: [&[u64]; 18] = [
 ];
 
 /// What the model meets on its way.
-pub const ON_THE_WAY: [&str; 17] = [
+pub const ON_THE_WAY: [&str; 22] = [
     "a Waiting add",
     "Whole",
     "Joined",
@@ -43,6 +43,11 @@ pub const ON_THE_WAY: [&str; 17] = [
     "a label's count reached 0",
     "a slot's count reached 0",
     "a skipped pair",
+    "a point with -0.0",
+    "a point with a NaN",
+    "a point with a signaling NaN",
+    "a point with an infinity",
+    "a point with a denormal",
 ];
 
 /// `table[call][number]` is the kind of an answer; number 0 is an accepted call.

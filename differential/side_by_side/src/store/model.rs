@@ -163,7 +163,7 @@ fn adjust(m: &mut Lent, pairs: &[[usize; 4]], r: &mut Returned, met: &mut Met) -
             refusal = dec_refusal(m, delete, delete_label);
             if refusal == 0 {
                 dec(m, delete, delete_label, met);
-            } else if !mutant::is("adjust-keeps-a-refused-pair's-inc") {
+            } else if !mutant::is("adjust-keeps-the-inc-of-a-refused-pair") {
                 undo_inc(m, insert, insert_label);
             }
         }

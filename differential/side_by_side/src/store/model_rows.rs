@@ -46,6 +46,7 @@ pub fn add(m: &mut Lent, point: &[u32], code: usize, r: &mut Returned, met: &mut
         met.push("a Waiting add");
         return 0;
     }
+    meet_floats(point, met);
     let label = if s.labels { take_label(m, code, met) } else { NONE };
     let row = if s.shingling { &window } else { point };
     take_point(m, row, r, met);
@@ -60,7 +61,8 @@ fn made_room(m: &mut Lent, window: &[u32], point: &[u32], met: &mut Met) -> u64 
         return 8;
     }
     let table = word(m, TABLE_LENGTH);
-    if point_stack(m).is_empty() && grown(table, s.capacity) == table {
+    let can_grow = grown(table, s.capacity) > table && !mutant::is("add-never-grows-the-table");
+    if point_stack(m).is_empty() && !can_grow {
         return 9;
     }
     let passes = |m: &Lent, floats: usize| word(m, FREE_START) + floats > word(m, STORE_LENGTH);
@@ -160,6 +162,35 @@ fn take_point(m: &mut Lent, row: &[u32], r: &mut Returned, met: &mut Met) {
     r.numbers[1] = index as u64;
     r.numbers[3] = joined as u64;
     r.numbers[4] = (start / s.base) as u64;
+}
+
+/// Which floats were kept that are easily taken for others.
+fn meet_floats(point: &[u32], met: &mut Met) {
+    use std::num::FpCategory;
+    for (kind, has) in [
+        ("a point with -0.0", point.contains(&0x8000_0000)),
+        ("a point with a NaN", has_nan(point)),
+        (
+            "a point with a signaling NaN",
+            point
+                .iter()
+                .any(|w| (0x7f80_0001..0x7fc0_0000).contains(&(w & 0x7fff_ffff))),
+        ),
+        (
+            "a point with an infinity",
+            point.iter().any(|w| f32::from_bits(*w).is_infinite()),
+        ),
+        (
+            "a point with a denormal",
+            point
+                .iter()
+                .any(|w| f32::from_bits(*w).classify() == FpCategory::Subnormal),
+        ),
+    ] {
+        if has {
+            met.push(kind);
+        }
+    }
 }
 
 fn has_nan(words: &[u32]) -> bool {

@@ -40,7 +40,7 @@ impl Sides {
     /// Opened on all sides.
     pub fn opened(memory: Lent, opening: Opening, coverage: &mut Coverage) -> Result<Self, String> {
         let mut sides = Sides::over(memory);
-        sides.rust = Some(rust_side::opened(opening));
+        sides.rust = (!mutant::is("harness-leaves-the-rust-out")).then(|| rust_side::opened(opening));
         sides.step(&Call::Open(opening), coverage)?;
         Ok(sides)
     }
@@ -237,13 +237,16 @@ fn sow_in_both(call: &Call, returned: &mut Returned, m: &mut Lent) {
             m.store[from..to].fill(0);
         }
         Call::Dec(..) if mutant::is("both-clear-the-code-of-a-dead-label") => {
-            for l in 0..m.labels.len() {
-                if m.words[STORE_LABELS] == 1 && m.label_count[l] == 0 {
-                    m.labels[l] = 0;
-                }
+            let labels = if m.words[STORE_LABELS] == 1 {
+                word(m, CAPACITY)
+            } else {
+                0
+            };
+            for l in (0..labels).filter(|l| m.label_count[*l] == 0) {
+                m.labels[l] = 0;
             }
         }
-        Call::Copy { .. } if mutant::is("both-lose-a-zero's-sign-in-a-copy") => {
+        Call::Copy { .. } if mutant::is("both-lose-the-sign-of-a-copied-zero") => {
             for w in returned.words.iter_mut().filter(|w| **w == 1 << 31) {
                 *w = 0;
             }
