@@ -21,6 +21,8 @@ mod sides;
 mod well_formed;
 
 use crate::coverage::Coverage;
+use std::sync::atomic::{AtomicUsize, Ordering};
+use std::sync::Mutex;
 use std::thread;
 
 /// What the Rust does with a call that is refused here.
@@ -48,7 +50,8 @@ fn share(calls: u64) -> u64 {
     calls * percent / 100
 }
 
-const RANDOM_CALLS: u64 = 7_000_000;
+/// Of each of the four parts.
+const RANDOM_CALLS: u64 = 5_000_000;
 const MADE_UP_CALLS: u64 = 3_000_000;
 const RUBBISH_CALLS: u64 = 2_000_000;
 const BROKEN_EACH: u64 = 1_000;
@@ -135,23 +138,53 @@ fn rubbish() -> Result<Coverage, String> {
     Ok(coverage)
 }
 
-/// Runs everything on two threads, and prints what each part covered.
+type Part = fn() -> Result<Coverage, String>;
+
+/// The random lists come last, in four parts under one title.
+const PARTS: [Part; 11] = [
+    differences,
+    recorded,
+    broken,
+    rubbish,
+    limits,
+    made_up,
+    short_lists,
+    || random_lists(1),
+    || random_lists(2),
+    || random_lists(3),
+    || random_lists(4),
+];
+
+/// Runs the parts on two threads; what each covered, in their order. After an error no other part is begun.
+fn run_parts() -> Result<Vec<Coverage>, String> {
+    let next = AtomicUsize::new(0);
+    let done: Mutex<Vec<(usize, Coverage)>> = Mutex::new(Vec::new());
+    let work = || -> Result<(), String> {
+        loop {
+            let k = next.fetch_add(1, Ordering::SeqCst);
+            let Some(part) = PARTS.get(k) else {
+                return Ok(());
+            };
+            let coverage = part().inspect_err(|_| next.store(PARTS.len(), Ordering::SeqCst))?;
+            done.lock().expect("no other thread panics with it").push((k, coverage));
+        }
+    };
+    thread::scope(|scope| {
+        let threads = [scope.spawn(work), scope.spawn(work)];
+        let ended = threads.map(|t| t.join().unwrap_or(Err("the harness panicked".to_string())));
+        ended.into_iter().collect::<Result<(), String>>()
+    })?;
+    let mut done = done.into_inner().expect("no thread panicked with it");
+    done.sort_by_key(|(k, _)| *k);
+    Ok(done.into_iter().map(|(_, coverage)| coverage).collect())
+}
+
+/// Runs everything, printing what each part covered.
 pub fn run() -> Result<(), String> {
-    let first = thread::spawn(|| random_lists(1));
-    let second = thread::spawn(|| -> Result<Vec<Coverage>, String> {
-        let parts = [differences, recorded, limits, broken, rubbish, made_up, short_lists];
-        let mut coverages = parts
-            .into_iter()
-            .map(|part| part())
-            .collect::<Result<Vec<_>, String>>()?;
-        coverages.push(random_lists(2)?);
-        Ok(coverages)
-    });
-    let panicked = |_| "the harness panicked".to_string();
-    let mut random = first.join().map_err(panicked)??;
-    let mut parts = second.join().map_err(panicked)??;
-    random.merge(parts.pop().expect("the second half of the random lists"));
-    parts.push(random);
+    let mut parts = run_parts()?;
+    let rest = parts.split_off(PARTS.len() - 3);
+    let random = parts.last_mut().expect("the first part of the random lists");
+    rest.into_iter().for_each(|more| random.merge(more));
     let calls: u64 = parts.iter().map(|part| part.count("calls")).sum();
     for part in parts {
         part.close()?;

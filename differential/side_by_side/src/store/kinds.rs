@@ -24,8 +24,8 @@ const REFUSALS: [&[u64]; 18] = [
     &[1, 3, 6],
 ];
 
-/// What the model meets on its way.
-pub const ON_THE_WAY: [&str; 22] = [
+/// What calls meet on their way.
+pub const ON_THE_WAY: [&str; 25] = [
     "a Waiting add",
     "Whole",
     "Joined",
@@ -48,6 +48,9 @@ pub const ON_THE_WAY: [&str; 22] = [
     "a point with a signaling NaN",
     "a point with an infinity",
     "a point with a denormal",
+    "a point equal to a row",
+    "a point unequal to a row",
+    "a sum with a NaN",
 ];
 
 /// `table[call][number]` is the kind of an answer; number 0 is an accepted call.

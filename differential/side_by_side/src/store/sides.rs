@@ -77,6 +77,9 @@ impl Sides {
         self.step_rust(call, &got, coverage)?;
         coverage.meet("calls");
         coverage.meet(kind);
+        if let Some(kind) = answer_met(call, &got) {
+            coverage.meet(kind);
+        }
         for kind in &self.met {
             coverage.meet(kind);
         }
@@ -183,6 +186,18 @@ impl Sides {
             "{call:?}\n    on {:?}\n{a}: {got:?}\n    leaves {left:?}\n{b}: {owed:?}\n    document 01 leaves {:?}",
             self.before, self.model
         )
+    }
+}
+
+/// What an answer shows.
+fn answer_met(call: &Call, got: &Returned) -> Option<&'static str> {
+    let has_nan = || got.words.iter().any(|w| f32::from_bits(*w).is_nan());
+    match call {
+        _ if got.value != 0 => None,
+        Call::IsEqual { .. } if got.numbers[0] == 1 => Some("a point equal to a row"),
+        Call::IsEqual { .. } => Some("a point unequal to a row"),
+        Call::PointSum { .. } if has_nan() => Some("a sum with a NaN"),
+        _ => None,
     }
 }
 
