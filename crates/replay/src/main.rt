@@ -98,7 +98,7 @@ fn main() {
         os::fail(path);
         return;
     }
-    let mut text = [0u8; 1048576];
+    let mut text = [0u8; 524288];
     let n = io::read_full(fd, &mut text);
     libc::close(fd);
     let mut tally = [0u64; 64];

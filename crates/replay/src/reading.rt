@@ -69,7 +69,12 @@ fn sum_numbers(b: Block, numbers: [usize; 64], n: usize, m: usize, out: &mut [f3
 pub fn summed(b: Block, line: Line) -> Made {
     let mut sums = [0.0f32; 64];
     let d = sum_numbers(b, line.numbers, line.taken / 2, line.second, &mut sums[..]);
-    listed(b, d, shorter(line.second, MOST), words::numbers_of_floats(sums))
+    listed(
+        b,
+        d,
+        shorter(line.second, MOST),
+        words::numbers_of_floats(sums),
+    )
 }
 
 fn preview_first(b: Block, row: &[u32], n: usize, m: usize, out: &mut [u32]) -> Done {
@@ -89,19 +94,40 @@ pub fn previewed(b: Block, line: Line) -> Made {
     listed(b, d, shorter(line.second, MOST), words::numbers_of(row))
 }
 
-fn missing_first(b: Block, look_ahead: usize, values: &[usize], n: usize, m: usize, out: &mut [usize]) -> Done {
+fn missing_first(
+    b: Block,
+    look_ahead: usize,
+    values: &[usize],
+    n: usize,
+    m: usize,
+    out: &mut [usize],
+) -> Done {
     let taken = shorter(n, values.len());
     let lent = shorter(m, out.len());
     missing_of(b, look_ahead, &values[..taken], &mut out[..lent])
 }
 
-fn missing_numbers(b: Block, look_ahead: usize, values: [usize; 64], n: usize, m: usize, out: &mut [usize]) -> Done {
+fn missing_numbers(
+    b: Block,
+    look_ahead: usize,
+    values: [usize; 64],
+    n: usize,
+    m: usize,
+    out: &mut [usize],
+) -> Done {
     missing_first(b, look_ahead, &values[..], n, m, out)
 }
 
 pub fn missing(b: Block, line: Line) -> Made {
     let mut places = [0usize; 64];
-    let d = missing_numbers(b, line.first, line.numbers, line.taken, line.second, &mut places[..]);
+    let d = missing_numbers(
+        b,
+        line.first,
+        line.numbers,
+        line.taken,
+        line.second,
+        &mut places[..],
+    );
     listed(b, d, shorter(line.second, MOST), places)
 }
 
@@ -134,5 +160,10 @@ fn attributes_first(b: Block, label_index: usize, m: usize, out: &mut [f32]) -> 
 pub fn attributed(b: Block, line: Line) -> Made {
     let mut floats = [0.0f32; 64];
     let d = attributes_first(b, answers::read(line.first), line.second, &mut floats[..]);
-    listed(b, d, shorter(line.second, MOST), words::numbers_of_floats(floats))
+    listed(
+        b,
+        d,
+        shorter(line.second, MOST),
+        words::numbers_of_floats(floats),
+    )
 }

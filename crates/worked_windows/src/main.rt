@@ -1,5 +1,4 @@
 // Runs document 01's worked windows A to H and its run-only cases on the proved store, and prints what each call answers.
-mod block;
 mod cases;
 mod print;
 

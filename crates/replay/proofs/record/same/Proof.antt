@@ -1,10 +1,9 @@
+-- Safe, and it ends.
 use borrow.Author.Needs.{needs}
 use Prim.Native.Nat.{_≤_, _-_}
 use lib.ListN.{length}
 use Rattle.replay.proofs.record.same.Statement.{statement}
 use Rattle.replay.proofs.record.same.Tie as tie
-use Rattle.replay.proofs.record.same.Reads as reads
-use Rattle.replay.proofs.record.same.Lts as lts
 
 abbrev Inv-loop : tie.InvT-loop
 Inv-loop a b ok₀ i₀ ok i = i ≤ length a
@@ -12,43 +11,33 @@ Inv-loop a b ok₀ i₀ ok i = i ≤ length a
 abbrev μ-loop : tie.MeasureT-loop
 μ-loop a b ok₀ i₀ ok i = length a - i
 
--- src/record.rt:47:9
 returns : tie.Need-returns Inv-loop μ-loop
 returns c = search needs
 
--- src/record.rt:51:5
 loop-holds : tie.Need-loop-holds Inv-loop μ-loop
 loop-holds c = search needs
 
--- src/record.rt:52:20
 mul-ok : tie.Need-mul-ok Inv-loop μ-loop
 mul-ok c = search needs
 
--- src/record.rt:52:20
 shared-slice-read-ok : tie.Need-shared-slice-read-ok Inv-loop μ-loop
 shared-slice-read-ok c = search needs
 
--- src/record.rt:52:28
 mul-ok-2 : tie.Need-mul-ok-2 Inv-loop μ-loop
 mul-ok-2 c = search needs
 
--- src/record.rt:52:28
 shared-slice-read-ok-2 : tie.Need-shared-slice-read-ok-2 Inv-loop μ-loop
 shared-slice-read-ok-2 c = search needs
 
--- src/record.rt:53:9
 add-i : tie.Need-add-i Inv-loop μ-loop
 add-i c = search needs
 
--- src/record.rt:51:5
 loop-less : tie.Need-loop-less Inv-loop μ-loop
 loop-less c = search needs
 
--- src/record.rt:51:5
 loop-again : tie.Need-loop-again Inv-loop μ-loop
 loop-again c = search needs
 
--- src/record.rt:45:1
 returns-2 : tie.Need-returns-2 Inv-loop μ-loop
 returns-2 c = search needs
 

@@ -1,12 +1,10 @@
+-- Safe, and it ends: the list keeps its length, and each turn fills one entry.
 use borrow.Author.Needs.{needs}
 use Prim.Native.Nat.{_-_}
 use lib.ListN.{length}
 use mathlib.Core.Path.{_≡_}
-use Rattle.replay.proofs.made.pairs_of.Statement.{statement}
-use Rattle.replay.proofs.made.pairs_of.Tie as tie
-use Rattle.replay.proofs.made.pairs_of.Reads as reads
-use Rattle.replay.proofs.made.pairs_of.Lts as lts
-use Rattle.replay.proofs.made.pair_at.Reads as pair-at-reads
+use Rattle.replay.proofs.lists.pairs_of.Statement.{statement}
+use Rattle.replay.proofs.lists.pairs_of.Tie as tie
 
 abbrev Inv-loop : tie.InvT-loop
 Inv-loop numbers pairs₀ i₀ pairs i = length pairs ≡ 16
@@ -14,43 +12,30 @@ Inv-loop numbers pairs₀ i₀ pairs i = length pairs ≡ 16
 abbrev μ-loop : tie.MeasureT-loop
 μ-loop numbers pairs₀ i₀ pairs i = 16 - i
 
--- src/made.rt:134:5
 loop-holds : tie.Need-loop-holds Inv-loop μ-loop
 loop-holds c = search needs
 
--- src/made.rt:135:28
 slice-aggregate-pair-at : tie.Need-slice-aggregate-pair-at Inv-loop μ-loop
 slice-aggregate-pair-at c = search needs
 
--- src/made.rt:135:42
-mul-pair-at : tie.Need-mul-pair-at Inv-loop μ-loop
-mul-pair-at c = search needs
-
--- src/made.rt:135:20
 pair-at-requires : tie.Need-pair-at-requires Inv-loop μ-loop
 pair-at-requires c κs = search needs
 
--- src/made.rt:135:9
 mul-pairs : tie.Need-mul-pairs Inv-loop μ-loop
 mul-pairs c = search needs
 
--- src/made.rt:135:9
 array-set-from-pairs : tie.Need-array-set-from-pairs Inv-loop μ-loop
 array-set-from-pairs c = search needs
 
--- src/made.rt:136:9
 add-i : tie.Need-add-i Inv-loop μ-loop
 add-i c = search needs
 
--- src/made.rt:134:5
 loop-less : tie.Need-loop-less Inv-loop μ-loop
 loop-less c = search needs
 
--- src/made.rt:134:5
 loop-again : tie.Need-loop-again Inv-loop μ-loop
 loop-again c = search needs
 
--- src/made.rt:130:1
 returns : tie.Need-returns Inv-loop μ-loop
 returns c = search needs
 
@@ -62,7 +47,6 @@ pairs-of-spec =
     μ-loop
     loop-holds
     slice-aggregate-pair-at
-    mul-pair-at
     pair-at-requires
     mul-pairs
     array-set-from-pairs

@@ -1,52 +1,41 @@
+-- Safe, and it ends: the output keeps its length, and each turn fills one entry.
 use borrow.Author.Needs.{needs}
 use Prim.Native.Nat.{_-_}
 use lib.ListN.{length}
 use mathlib.Core.Path.{_≡_}
-use Rattle.replay.proofs.answers.from_floats.Statement.{statement}
-use Rattle.replay.proofs.answers.from_floats.Tie as tie
-use Rattle.replay.proofs.answers.from_floats.Reads as reads
-use Rattle.replay.proofs.answers.from_floats.Lts as lts
-use Rattle.replay.proofs.answers.float_at.Reads as float-at-reads
+use Rattle.replay.proofs.words.from_floats.Statement.{statement}
+use Rattle.replay.proofs.words.from_floats.Tie as tie
 
 abbrev Inv-loop : tie.InvT-loop
 Inv-loop floats out₀ i₀ out i = length out ≡ length out₀
 
 abbrev μ-loop : tie.MeasureT-loop
-μ-loop floats out₀ i₀ out i = length out - i
+μ-loop floats out₀ i₀ out i = length out₀ - i
 
--- src/answers.rt:161:5
 loop-holds : tie.Need-loop-holds Inv-loop μ-loop
 loop-holds c = search needs
 
--- src/answers.rt:162:18
 float-at-requires : tie.Need-float-at-requires Inv-loop μ-loop
 float-at-requires c κs = search needs
 
--- src/answers.rt:162:9
 mul-out : tie.Need-mul-out Inv-loop μ-loop
 mul-out c = search needs
 
--- src/answers.rt:162:9
 slice-write-out : tie.Need-slice-write-out Inv-loop μ-loop
 slice-write-out c = search needs
 
--- src/answers.rt:163:9
 add-i : tie.Need-add-i Inv-loop μ-loop
 add-i c = search needs
 
--- src/answers.rt:161:5
 loop-less : tie.Need-loop-less Inv-loop μ-loop
 loop-less c = search needs
 
--- src/answers.rt:161:5
 loop-again : tie.Need-loop-again Inv-loop μ-loop
 loop-again c = search needs
 
--- src/answers.rt:159:1
 same-length : tie.Need-same-length Inv-loop μ-loop
 same-length c = search needs
 
--- src/answers.rt:159:1
 returns : tie.Need-returns Inv-loop μ-loop
 returns c = search needs
 
