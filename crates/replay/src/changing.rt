@@ -30,7 +30,8 @@ fn shape_of(n: [usize; 64]) -> Shape {
 }
 
 pub fn opened(b: Block, line: Line) -> Made {
-    let r = open_block(shape_of(line.numbers));
+    let numbers = line.numbers;
+    let r = open_block(shape_of(numbers));
     let d = r.answer;
     let after = r.block;
     let t = answers::of_done(d);
@@ -51,7 +52,8 @@ fn add_numbers(b: Block, numbers: [usize; 64], n: usize, label: usize) -> Grown 
 }
 
 pub fn added(b: Block, line: Line) -> Made {
-    let r = add_numbers(b, line.numbers, line.taken, line.first);
+    let numbers = line.numbers;
+    let r = add_numbers(b, numbers, line.taken, line.first);
     let a = r.answer;
     let after = r.block;
     told(after, answers::of_added(a))
@@ -82,7 +84,8 @@ fn adjust_numbers(b: Block, numbers: [usize; 64], n: usize) -> Counted {
 }
 
 pub fn adjusted(b: Block, line: Line) -> Made {
-    let r = adjust_numbers(b, line.numbers, line.taken / 4);
+    let numbers = line.numbers;
+    let r = adjust_numbers(b, numbers, line.taken / 4);
     let a = r.answer;
     let after = r.block;
     told(after, answers::of_adjusted(a))

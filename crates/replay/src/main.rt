@@ -42,7 +42,9 @@ fn agrees(line: Line, made: Made) -> bool {
     if made.count != line.answered {
         return false;
     }
-    record::same_answers(made.answers, line.answers)
+    let given = made.answers;
+    let recorded = line.answers;
+    record::same_answers(given, recorded)
 }
 
 fn rests(line: Line, b: Block) -> bool {

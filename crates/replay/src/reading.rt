@@ -51,7 +51,8 @@ fn equal_numbers(b: Block, index: usize, numbers: [usize; 64], n: usize) -> Equa
 }
 
 pub fn compared(b: Block, line: Line) -> Made {
-    let e = equal_numbers(b, answers::read(line.first), line.numbers, line.taken);
+    let numbers = line.numbers;
+    let e = equal_numbers(b, answers::read(line.first), numbers, line.taken);
     told(b, answers::of_equality(e))
 }
 
@@ -67,8 +68,9 @@ fn sum_numbers(b: Block, numbers: [usize; 64], n: usize, m: usize, out: &mut [f3
 }
 
 pub fn summed(b: Block, line: Line) -> Made {
+    let numbers = line.numbers;
     let mut sums = [0.0f32; 64];
-    let d = sum_numbers(b, line.numbers, line.taken / 2, line.second, &mut sums[..]);
+    let d = sum_numbers(b, numbers, line.taken / 2, line.second, &mut sums[..]);
     listed(
         b,
         d,
@@ -89,8 +91,9 @@ fn preview_numbers(b: Block, numbers: [usize; 64], n: usize, m: usize, out: &mut
 }
 
 pub fn previewed(b: Block, line: Line) -> Made {
+    let numbers = line.numbers;
     let mut row = [0u32; 64];
-    let d = preview_numbers(b, line.numbers, line.taken, line.second, &mut row[..]);
+    let d = preview_numbers(b, numbers, line.taken, line.second, &mut row[..]);
     listed(b, d, shorter(line.second, MOST), words::numbers_of(row))
 }
 
@@ -119,11 +122,12 @@ fn missing_numbers(
 }
 
 pub fn missing(b: Block, line: Line) -> Made {
+    let numbers = line.numbers;
     let mut places = [0usize; 64];
     let d = missing_numbers(
         b,
         line.first,
-        line.numbers,
+        numbers,
         line.taken,
         line.second,
         &mut places[..],
