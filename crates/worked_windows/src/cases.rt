@@ -17,7 +17,7 @@ use crate::print::text;
 use crate::print::word;
 use store_definitions::Shape;
 
-fn opened(
+pub fn opened(
     internal_shingling: bool,
     internal_rotation: bool,
     capacity: usize,
@@ -42,7 +42,7 @@ fn opened(
 }
 
 // An add of two floats, with internal shingling.
-fn add_two(b: Block, x: usize, y: usize) -> Block {
+pub fn add_two(b: Block, x: usize, y: usize) -> Block {
     let point = [word(x), word(y)];
     let r = add_row(b, &point[..]);
     text(b"  add ");
