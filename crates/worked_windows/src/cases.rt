@@ -18,7 +18,7 @@ use block::open_block;
 use store_definitions::Shape;
 use terms::NONE;
 
-fn opened(
+pub fn opened(
     internal_shingling: bool,
     internal_rotation: bool,
     capacity: usize,
@@ -43,7 +43,7 @@ fn opened(
 }
 
 // An add of two floats, with internal shingling.
-fn add_two(b: Block, x: usize, y: usize) -> Block {
+pub fn add_two(b: Block, x: usize, y: usize) -> Block {
     let point = [word(x), word(y)];
     let r = add_row(b, &point[..], 0);
     text(b"  add ");
