@@ -1,6 +1,6 @@
-pub mod Shingled
-pub mod Previews
-pub mod IndexReadings
 pub mod EqualityLaws
+pub mod IndexReadings
 pub mod Items
+pub mod Previews
+pub mod Shingled
 pub mod SumLaws

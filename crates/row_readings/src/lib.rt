@@ -1,6 +1,7 @@
-// What the store's readings do once the store is checked: each function over just the numbers and slices that it reads, with
-// what the check shows as its `requires`. The calls stand in `store_readings`, which checks first. They stand apart from those,
-// so that an edit that must be refused is tried in seconds.
+// What the store's other readings do once the store is checked: equality with a row's copy, sums of rows, the window that a next
+// point would make, and where the next values stand in it. Each function takes just the slices that it reads and writes, with
+// what the check shows as its `requires`. They stand apart from the calls over the whole store, so that an edit that must be
+// refused is tried in seconds.
 mod equality;
 mod index_list;
 mod preview;
