@@ -3,6 +3,7 @@ use libc::STDOUT_FILENO;
 use placement::Laid;
 use store_definitions::Added;
 use store_definitions::Done;
+use store_definitions::Equality;
 use store_definitions::Kept;
 use store_definitions::Number;
 use terms::Refusal;
@@ -88,6 +89,21 @@ pub fn answer(n: Number) {
     }
 }
 
+fn truth(b: bool) {
+    if b {
+        text(b"true");
+        return;
+    }
+    text(b"false");
+}
+
+pub fn equality(e: Equality) {
+    match e {
+        Equality::Is(b) => truth(b),
+        Equality::Refused(r) => refusal(r),
+    }
+}
+
 // The float of a word, or 13 where it is none of the worked windows'.
 fn shown(w: u32) -> usize {
     let mut n: usize = 0;
@@ -117,6 +133,16 @@ pub fn row(r: [u32; 4]) {
     float(r[2]);
     text(b" ");
     float(r[3]);
+}
+
+// Any number of floats, each after a space.
+pub fn vector(v: &[u32]) {
+    let mut i: usize = 0;
+    while i < v.len() {
+        text(b" ");
+        float(v[i]);
+        i += 1;
+    }
 }
 
 // The end of a line: the free start after the call.

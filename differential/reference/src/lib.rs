@@ -1,5 +1,5 @@
 //! The Rust's own files, compiled unchanged from where they stand. Each is included in a module of its name, so that the
-//! readers beside it reach its private fields; they change nothing.
+//! readers beside it reach its private fields; they change nothing (but for `at_sequence`, which says so).
 #![allow(dead_code, clippy::all)]
 
 pub mod errors {
@@ -16,7 +16,14 @@ pub mod util {
 
 pub mod pointstore {
     include!(concat!(env!("RCFLIB"), "/pointstore.rs"));
+
+    mod readers;
 }
+
+pub mod reasons;
+
+/// The store that document 01 compares with: 16-bit locations, reason codes and their classes.
+pub type Store = pointstore::VectorizedPointStore<u16, reasons::Code, reasons::Class>;
 
 pub mod common {
     pub mod intervalstoremanager {

@@ -3,14 +3,30 @@
 mod coverage;
 mod manager;
 mod mutant;
+mod store;
 
 use std::panic;
 use std::process::ExitCode;
 
+/// The parts that the sown fault, if any, belongs to.
+fn parts() -> Result<(), String> {
+    if std::env::var_os("STORE_ALONE").is_some() {
+        return store::run();
+    }
+    if mutant::is_none_but(&mutant::OF_THE_MANAGER) {
+        manager::run()?;
+    }
+    if mutant::is_none_but(&mutant::OF_THE_STORE) {
+        store::run()?;
+    }
+    Ok(())
+}
+
 fn main() -> ExitCode {
     mutant::announce();
     panic::set_hook(Box::new(|_| {}));
-    match manager::run() {
+    let found = parts();
+    match found {
         Ok(()) => {
             println!("no difference");
             ExitCode::SUCCESS

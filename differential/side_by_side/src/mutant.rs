@@ -4,7 +4,8 @@
 use std::env;
 use std::sync::OnceLock;
 
-pub const MUTANTS: [&str; 13] = [
+/// Sown in the interval manager's part.
+pub const OF_THE_MANAGER: [&str; 13] = [
     "release-merges-at-the-other-end",
     "get-leaves-an-emptied-interval",
     "change-pushes-one-index-too-few",
@@ -20,17 +21,62 @@ pub const MUTANTS: [&str; 13] = [
     "both-write-an-entry-never-in-use",
 ];
 
+/// Sown in the store's part.
+pub const OF_THE_STORE: [&str; 36] = [
+    "compaction-leaves-old-places",
+    "no-zeros-before-a-block",
+    "add-never-grows-the-floats",
+    "add-never-grows-the-table",
+    "growth-keeps-the-lent-floats",
+    "joined-by-equal-bits",
+    "code-24-is-taken",
+    "copy-never-turns",
+    "equality-by-bits",
+    "turned-rows-in-a-sum",
+    "look-ahead-is-dropped",
+    "one-hot-at-the-class",
+    "dec-keeps-the-place",
+    "dec-keeps-the-slot",
+    "dec-ignores-the-label-index",
+    "inc-past-65535",
+    "adjust-keeps-the-inc-of-a-refused-pair",
+    "adjust-leaves-skipped-pairs-out",
+    "an-index-in-two-free-intervals",
+    "two-points-at-one-place",
+    "a-row-past-the-free-start",
+    "a-slot-of-another-class",
+    "two-slots-of-one-class",
+    "a-slot-count-that-is-no-sum",
+    "harness-swaps-index-and-label",
+    "harness-writes-the-answer-of-a-refused-store-call",
+    "harness-never-compacts",
+    "harness-never-rotates",
+    "harness-knows-no-special-floats",
+    "harness-compares-slots-for-ever",
+    "harness-leaves-the-rust-out",
+    "both-give-the-wrong-place",
+    "both-write-a-float-past-the-free-start",
+    "both-clear-floats-after-compaction",
+    "both-clear-the-code-of-a-dead-label",
+    "both-lose-the-sign-of-a-copied-zero",
+];
+
 fn sown() -> Option<&'static str> {
     static SOWN: OnceLock<Option<&'static str>> = OnceLock::new();
     *SOWN.get_or_init(|| {
         let name = env::var("MUTANT").ok()?;
-        let known = MUTANTS.iter().find(|m| **m == name);
+        let known = OF_THE_MANAGER.iter().chain(&OF_THE_STORE).find(|m| **m == name);
         Some(*known.unwrap_or_else(|| panic!("no mutant {name}")))
     })
 }
 
 pub fn is(name: &'static str) -> bool {
     sown() == Some(name)
+}
+
+/// Whether nothing is sown outside these.
+pub fn is_none_but(mutants: &[&str]) -> bool {
+    sown().is_none_or(|name| mutants.contains(&name))
 }
 
 pub fn announce() {

@@ -1,0 +1,194 @@
+//! The store.
+mod beyond;
+mod breaking;
+mod call;
+mod differs;
+mod guess;
+mod kinds;
+mod lent;
+mod library_side;
+mod limits;
+mod lists;
+mod made_up;
+mod memory;
+mod model;
+mod model_readings;
+mod model_rows;
+mod recorded;
+mod rust_side;
+mod short_lists;
+mod sides;
+mod well_formed;
+
+use crate::coverage::Coverage;
+use std::sync::atomic::{AtomicUsize, Ordering};
+use std::sync::Mutex;
+use std::thread;
+
+/// What the Rust does with a call that is refused here.
+const REFUSED: [&str; 3] = [
+    "refused here, an error in the Rust",
+    "refused here, a panic in the Rust",
+    "refused here, taken by the Rust",
+];
+
+/// A part's counts: of all calls, answers and events, and of the named kinds, which have to be met.
+fn counts(title: &'static str, owed: &[&[&'static str]]) -> Coverage {
+    let all = [
+        &["calls", "compared with the Rust"][..],
+        &kinds::accepted(),
+        &kinds::ON_THE_WAY,
+        &kinds::refusals(|_, _| false),
+        &REFUSED,
+    ];
+    Coverage::counting(title, &all.concat(), &owed.concat())
+}
+
+/// How many of a hundred calls are made of those that a full run makes: `SHARE`, 100 where it is not set.
+fn share(calls: u64) -> u64 {
+    let percent = std::env::var("SHARE").map_or(100, |s| s.parse().expect("SHARE is a number"));
+    calls * percent / 100
+}
+
+/// Of each of the four parts.
+const RANDOM_CALLS: u64 = 5_000_000;
+const MADE_UP_CALLS: u64 = 3_000_000;
+const RUBBISH_CALLS: u64 = 2_000_000;
+const BROKEN_EACH: u64 = 1_000;
+
+fn random_lists(seed: u64) -> Result<Coverage, String> {
+    // 1 and 2 need other memory and shapes, 7 needs 65,534 incs.
+    let refusals = kinds::refusals(|_, number| [1, 2, 7].contains(&number));
+    let owed = [
+        &lists::SHAPES[..],
+        &kinds::accepted(),
+        &kinds::ON_THE_WAY,
+        &refusals,
+        &REFUSED,
+    ];
+    let mut coverage = counts("store, random lists beside the Rust", &owed);
+    lists::corner_lists(seed, &mut coverage)?;
+    lists::random_lists(seed, share(RANDOM_CALLS), &mut coverage)?;
+    Ok(coverage)
+}
+
+fn short_lists() -> Result<Coverage, String> {
+    let owed = [&["lists", "compared with the Rust"][..], &kinds::accepted(), &REFUSED];
+    let mut coverage = counts("store, every short list over small shapes, beside the Rust", &owed);
+    short_lists::every_short_list(if share(100) < 50 { 4 } else { 6 }, &mut coverage)?;
+    Ok(coverage)
+}
+
+fn limits() -> Result<Coverage, String> {
+    let owed = [
+        "a count at 65,535",
+        "a slot's count at 131,070",
+        "refusal 7 of inc",
+        "refusal 7 of adjust",
+    ];
+    let mut coverage = counts("store, counts to their limit and back, beside the Rust", &[&owed]);
+    limits::counts_to_the_limit(0, &mut coverage)?;
+    limits::counts_to_the_limit(1, &mut coverage)?;
+    Ok(coverage)
+}
+
+fn recorded() -> Result<Coverage, String> {
+    let mut coverage = counts("store, the recorded calls of the Rust", &[&["recorded calls"]]);
+    recorded::replayed(&mut coverage)?;
+    Ok(coverage)
+}
+
+fn differences() -> Result<Coverage, String> {
+    let mut coverage = Coverage::new(
+        "store, each difference from the Rust at its smallest input",
+        &differs::KINDS,
+    );
+    differs::each(&mut coverage)?;
+    Ok(coverage)
+}
+
+fn made_up() -> Result<Coverage, String> {
+    let refusals = kinds::refusals(|_, number| [1, 2].contains(&number));
+    let owed = [
+        &["stores made up"][..],
+        &kinds::accepted()[1..],
+        &kinds::ON_THE_WAY,
+        &refusals,
+    ];
+    let mut coverage = counts("store, stores that no list reaches", &owed);
+    beyond::made_up_stores(11, share(MADE_UP_CALLS), &mut coverage)?;
+    Ok(coverage)
+}
+
+fn broken() -> Result<Coverage, String> {
+    let refusals = kinds::refusals(|call, number| call == 0 || number != 1);
+    let mut coverage = counts(
+        "store, each clause of well-formedness broken alone",
+        &[&well_formed::CLAUSES, &refusals],
+    );
+    beyond::each_clause_broken(12, share(BROKEN_EACH).max(100) as usize, &mut coverage)?;
+    Ok(coverage)
+}
+
+fn rubbish() -> Result<Coverage, String> {
+    let refusals = kinds::refusals(|_, number| number > 2);
+    let owed = [&["spoiled and still well-formed"][..], &kinds::accepted(), &refusals];
+    let mut coverage = counts("store, rubbish in the memory, any opening", &owed);
+    beyond::rubbish(13, share(RUBBISH_CALLS), &mut coverage)?;
+    Ok(coverage)
+}
+
+type Part = fn() -> Result<Coverage, String>;
+
+/// The random lists come last, in four parts under one title.
+const PARTS: [Part; 11] = [
+    differences,
+    recorded,
+    broken,
+    rubbish,
+    limits,
+    made_up,
+    short_lists,
+    || random_lists(1),
+    || random_lists(2),
+    || random_lists(3),
+    || random_lists(4),
+];
+
+/// Runs the parts on two threads; what each covered, in their order. After an error no other part is begun.
+fn run_parts() -> Result<Vec<Coverage>, String> {
+    let next = AtomicUsize::new(0);
+    let done: Mutex<Vec<(usize, Coverage)>> = Mutex::new(Vec::new());
+    let work = || -> Result<(), String> {
+        loop {
+            let k = next.fetch_add(1, Ordering::SeqCst);
+            let Some(part) = PARTS.get(k) else {
+                return Ok(());
+            };
+            let coverage = part().inspect_err(|_| next.store(PARTS.len(), Ordering::SeqCst))?;
+            done.lock().expect("no other thread panics with it").push((k, coverage));
+        }
+    };
+    thread::scope(|scope| {
+        let threads = [scope.spawn(work), scope.spawn(work)];
+        let ended = threads.map(|t| t.join().unwrap_or(Err("the harness panicked".to_string())));
+        ended.into_iter().collect::<Result<(), String>>()
+    })?;
+    let mut done = done.into_inner().expect("no thread panicked with it");
+    done.sort_by_key(|(k, _)| *k);
+    Ok(done.into_iter().map(|(_, coverage)| coverage).collect())
+}
+
+/// Runs everything, printing what each part covered.
+pub fn run() -> Result<(), String> {
+    let mut parts = run_parts()?;
+    let rest = parts.split_off(PARTS.len() - 3);
+    let random = parts.last_mut().expect("the first part of the random lists");
+    rest.into_iter().for_each(|more| random.merge(more));
+    let calls: u64 = parts.iter().map(|part| part.count("calls")).sum();
+    for part in parts {
+        part.close()?;
+    }
+    println!("store: {calls} calls in all");
+    Ok(())
+}

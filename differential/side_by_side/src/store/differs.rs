@@ -1,0 +1,396 @@
+//! Where the Rust does otherwise than document 01: the smallest input of each row of docs/DIFFERENCES.md, what the library
+//! answers, and what the Rust makes of it.
+use super::call::Call;
+use super::lent::rubbish_for;
+use super::memory::*;
+use super::rust_side::Outcome;
+use super::{library_side, rust_side};
+use crate::coverage::Coverage;
+use library::store::{Lent, Opening};
+use random::Random;
+use reference::pointstore::PointStore;
+use reference::Store;
+use std::panic::{catch_unwind, AssertUnwindSafe};
+
+#[derive(Clone, Copy, Debug, PartialEq)]
+enum Rust {
+    Takes,
+    Error,
+    Panics,
+}
+
+struct Difference {
+    name: &'static str,
+    opening: Opening,
+    /// Calls that both take.
+    calls: Vec<Call>,
+    last: Call,
+    /// What the library answers to the last call.
+    refusal: u64,
+    rust: Rust,
+    /// What is seen in the Rust after it, and not here.
+    seen: fn(&mut Store) -> bool,
+}
+
+/// Dimensions, shingle size, capacity, starting capacity; flags by their letters.
+fn shape_of(shape: [usize; 4], flags: &str) -> Opening {
+    Opening {
+        dimensions: shape[0],
+        shingle_size: shape[1],
+        capacity: shape[2],
+        initial_capacity: shape[3],
+        internal_shingling: flags.contains('s') as usize,
+        internal_rotation: flags.contains('r') as usize,
+        store_labels: flags.contains('l') as usize,
+    }
+}
+
+fn floats(values: &[u8]) -> Vec<u32> {
+    values.iter().map(|v| (*v as f32).to_bits()).collect()
+}
+
+fn add(values: &[u8], label: usize) -> Call {
+    Call::Add {
+        point: floats(values),
+        label,
+    }
+}
+
+fn is_equal(values: &[u8]) -> Call {
+    Call::IsEqual {
+        index: 0,
+        point: floats(values),
+    }
+}
+
+fn any(_: &mut Store) -> bool {
+    true
+}
+
+fn copy_panics(rust: &mut Store) -> bool {
+    catch_unwind(AssertUnwindSafe(|| rust.copy(0).is_ok())).is_err()
+}
+
+fn refused_here_taken_there() -> Vec<Difference> {
+    let plain = shape_of([1, 1, 1, 1], "");
+    let labels = shape_of([1, 1, 1, 1], "l");
+    let two_labels = shape_of([1, 1, 2, 2], "l");
+    let rotating = shape_of([2, 1, 1, 1], "r");
+    let row = |name, opening, calls, last, refusal, seen| Difference {
+        name,
+        opening,
+        calls,
+        last,
+        refusal,
+        rust: Rust::Takes,
+        seen,
+    };
+    let mut at_65_535 = vec![add(&[1], 0)];
+    at_65_535.resize(65_535, Call::Inc(0, NONE));
+    vec![
+        row(
+            "inc of a dead index",
+            plain,
+            vec![add(&[1], 0), Call::Dec(0, NONE)],
+            Call::Inc(0, 0),
+            5,
+            copy_panics,
+        ),
+        row(
+            "inc of a dead label",
+            two_labels,
+            vec![add(&[1], 0), add(&[1], 0), Call::Dec(0, 0)],
+            Call::Inc(1, 0),
+            6,
+            |rust| rust.label_count(0) == 1 && !rust.label_manager().is_empty(),
+        ),
+        row(
+            "attribute of a dead label",
+            labels,
+            vec![add(&[1], 0), Call::Dec(0, 0)],
+            Call::Attribute(0),
+            6,
+            any,
+        ),
+        row(
+            "attribute_vec of a dead label",
+            labels,
+            vec![add(&[1], 0), Call::Dec(0, 0)],
+            Call::AttributeVec { label: 0, out: 10 },
+            6,
+            any,
+        ),
+        row("inc at 65,535", plain, at_65_535, Call::Inc(0, NONE), 7, |rust| {
+            rust.point_count(0) == 65_536
+        }),
+        row(
+            "a Waiting add of code 24",
+            shape_of([2, 2, 1, 1], "sl"),
+            vec![],
+            add(&[1], 24),
+            4,
+            any,
+        ),
+        row(
+            "look-ahead 65,536",
+            plain,
+            vec![],
+            Call::NextIndices {
+                look_ahead: 65_536,
+                out: 1,
+            },
+            11,
+            any,
+        ),
+        row(
+            "weight 16,777,217",
+            plain,
+            vec![add(&[1], 0)],
+            Call::PointSum {
+                items: vec![[0, 16_777_217]],
+                out: 1,
+            },
+            11,
+            |rust| rust.point_sum(&[(0, 16_777_217)]).unwrap() == [16_777_216.0],
+        ),
+        row(
+            "is_equal of a wrong length",
+            plain,
+            vec![add(&[1], 0)],
+            is_equal(&[1, 2]),
+            3,
+            |rust| rust.is_equal(&[1.0, 2.0], 0) == Ok(false),
+        ),
+        row(
+            "is_equal, rotating, of a longer point",
+            rotating,
+            vec![add(&[1, 2], 0)],
+            is_equal(&[1, 2, 3]),
+            3,
+            |rust| rust.is_equal(&[1.0, 2.0, 3.0], 0) == Ok(true) && rust.is_equal(&[2.0], 0) == Ok(false),
+        ),
+        row(
+            "opening at dimensions 65",
+            plain,
+            vec![],
+            Call::Open(shape_of([65, 1, 1, 1], "")),
+            2,
+            |rust| rust.floats().len() == 65,
+        ),
+        row(
+            "opening at a start above the capacity",
+            plain,
+            vec![],
+            Call::Open(shape_of([1, 1, 1, 2], "")),
+            2,
+            |rust| rust.table_length() == 2,
+        ),
+    ]
+}
+
+fn errors_and_panics() -> Vec<Difference> {
+    let plain = shape_of([1, 1, 1, 1], "");
+    let labels = shape_of([1, 1, 1, 1], "l");
+    let rotating = shape_of([2, 1, 1, 1], "r");
+    let row = |name, opening, calls, last, refusal, rust, seen| Difference {
+        name,
+        opening,
+        calls,
+        last,
+        refusal,
+        rust,
+        seen,
+    };
+    vec![
+        row(
+            "is_equal, rotating, of a shorter point",
+            rotating,
+            vec![add(&[1, 2], 0)],
+            is_equal(&[1]),
+            3,
+            Rust::Panics,
+            any,
+        ),
+        row(
+            "no float space",
+            shape_of([2, 2, 2, 2], "r"),
+            vec![add(&[1, 2], 0), add(&[2, 3], 0), Call::Dec(0, NONE)],
+            add(&[9, 9], 0),
+            10,
+            Rust::Panics,
+            any,
+        ),
+        row(
+            "inc with a label that was never given",
+            labels,
+            vec![add(&[1], 0)],
+            Call::Inc(0, 1),
+            6,
+            Rust::Panics,
+            |rust| rust.point_count(0) == 2,
+        ),
+        row(
+            "dec with a label that was never given",
+            labels,
+            vec![add(&[1], 0)],
+            Call::Dec(0, 1),
+            6,
+            Rust::Panics,
+            |rust| rust.point_count(0) == 0,
+        ),
+        row(
+            "dec with a label, labels off",
+            plain,
+            vec![add(&[1], 0)],
+            Call::Dec(0, 0),
+            6,
+            Rust::Error,
+            |rust| rust.point_count(0) == 0,
+        ),
+        row(
+            "an add of a wrong length",
+            plain,
+            vec![],
+            add(&[], 0),
+            3,
+            Rust::Error,
+            |rust| rust.sequence() == 1,
+        ),
+        row(
+            "an adjust whose dec is refused",
+            plain,
+            vec![add(&[1], 0)],
+            Call::Adjust(vec![[0, NONE, 1, NONE]]),
+            5,
+            Rust::Error,
+            |rust| rust.point_count(0) == 2,
+        ),
+        row(
+            "no label index free",
+            labels,
+            vec![add(&[1], 0)],
+            add(&[1], 0),
+            8,
+            Rust::Error,
+            |rust| rust.slot_count(0) == 2 && rust.sequence() == 2,
+        ),
+        row(
+            "no point index free, labels on",
+            shape_of([1, 1, 2, 1], "l"),
+            vec![add(&[1], 0)],
+            add(&[1], 0),
+            9,
+            Rust::Error,
+            |rust| rust.label_count(1) == 1 && rust.slot_count(0) == 2 && rust.sequence() == 2,
+        ),
+        row(
+            "no point index free, after a compaction",
+            shape_of([2, 2, 4, 3], ""),
+            vec![
+                add(&[1, 2], 0),
+                add(&[2, 3], 0),
+                add(&[3, 4], 0),
+                Call::Dec(0, NONE),
+                add(&[4, 5], 0),
+            ],
+            add(&[5, 6], 0),
+            9,
+            Rust::Error,
+            |rust| *rust.places() == [2, 0, 1] && rust.free_start() == 4,
+        ),
+    ]
+}
+
+fn opened(opening: Opening) -> (Lent, Store) {
+    // Memory for the larger openings that are tried over it, too.
+    let mut memory = rubbish_for(shape_of([64, 1, 4, 4], "l"), 0, &mut Random::new(8));
+    library_side::made(&Call::Open(opening), &mut memory);
+    (memory, rust_side::opened(opening))
+}
+
+fn try_one(d: &Difference) -> Result<(), String> {
+    let (mut memory, mut rust) = opened(d.opening);
+    for call in &d.calls {
+        let value = library_side::made(call, &mut memory).value;
+        let outcome = rust_side::made(call, shape(&memory), &mut rust);
+        if value != 0 || !matches!(outcome, Outcome::Answered(_)) {
+            return Err(format!("{}: {call:?} gives {value}", d.name));
+        }
+    }
+    let before = memory.clone();
+    let value = library_side::made(&d.last, &mut memory).value;
+    let outcome = match rust_side::made(&d.last, shape(&before), &mut rust) {
+        Outcome::Answered(_) => Rust::Takes,
+        Outcome::Error => Rust::Error,
+        Outcome::Panic => Rust::Panics,
+    };
+    let kept = value == 10 || memory == before;
+    if value != d.refusal || !kept || outcome != d.rust || !(d.seen)(&mut rust) {
+        return Err(format!(
+            "{}: refused with {value}; the Rust {outcome:?}: {rust:?}",
+            d.name
+        ));
+    }
+    Ok(())
+}
+
+/// The sequence at its limit: so many points are not added, it is set.
+fn sequence_at_its_limit() -> Result<(), String> {
+    let (mut memory, mut rust) = opened(shape_of([1, 1, 1, 1], ""));
+    memory.words[SEQUENCE] = LARGEST_SEQUENCE;
+    rust.at_sequence(LARGEST_SEQUENCE as usize);
+    let value = library_side::made(&add(&[1], 0), &mut memory).value;
+    let outcome = rust_side::made(&add(&[1], 0), shape(&memory), &mut rust);
+    if value != 12 || !matches!(outcome, Outcome::Answered(_)) {
+        return Err(format!("the sequence at its limit: {value}"));
+    }
+    Ok(())
+}
+
+/// The Rust keeps a class's old slot after release: both take the calls, and an attribute answers otherwise.
+fn old_slot_kept() -> Result<(), String> {
+    let (mut memory, mut rust) = opened(shape_of([1, 1, 2, 2], "l"));
+    let mut last = [0; 2];
+    for call in [
+        add(&[1], 0),
+        Call::Dec(0, 0),
+        add(&[1], 3),
+        add(&[1], 0),
+        Call::Attribute(0),
+    ] {
+        let ours = library_side::made(&call, &mut memory);
+        let Outcome::Answered(theirs) = rust_side::made(&call, shape(&memory), &mut rust) else {
+            return Err(format!("a class's old slot: the Rust refuses {call:?}"));
+        };
+        last = [ours.numbers[0], theirs.numbers[0]];
+    }
+    if last != [1, 0] {
+        return Err(format!(
+            "a class's old slot: attribute 0 is {last:?} here and in the Rust"
+        ));
+    }
+    Ok(())
+}
+
+pub fn each(coverage: &mut Coverage) -> Result<(), String> {
+    for d in refused_here_taken_there().iter().chain(&errors_and_panics()) {
+        try_one(d)?;
+        coverage.meet(match d.rust {
+            Rust::Takes => "refused here, taken by the Rust",
+            Rust::Error => "refused here, partly made and an error in the Rust",
+            Rust::Panics => "refused here, a panic in the Rust",
+        });
+    }
+    sequence_at_its_limit()?;
+    coverage.meet("refused here, taken by the Rust");
+    old_slot_kept()?;
+    coverage.meet("answered otherwise by the Rust");
+    Ok(())
+}
+
+pub const KINDS: [&str; 4] = [
+    "refused here, taken by the Rust",
+    "refused here, partly made and an error in the Rust",
+    "refused here, a panic in the Rust",
+    "answered otherwise by the Rust",
+];
