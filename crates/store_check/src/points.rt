@@ -5,57 +5,49 @@ ghost use Prim.Native.Nat.{ℕ, _≤_, _<_};
 ghost use lib.ListN.{length, getD};
 ghost use Rattle.interval_store_manager.specs.Marks.{Unmarked};
 ghost use Rattle.store_definitions.specs.WellFormed.{placesDistinct};
-ghost use Rattle.store_check.specs.Entries.{entryWell, entriesWell, countsLive, placeFresh, placeMarked, PlacesBelow};
+ghost use Rattle.store_check.specs.Entries.{placeLimit, entryWell, entriesWell, placeFresh, placeMarked, PlacesBelow};
 
-// What a pass over the entries finds: whether all are well, and how many are live.
-pub struct EntriesChecked {
-    pub ok: bool,
-    pub live: usize,
+// The first place whose row would end past the free start: a row ends by it exactly where its place is below the limit.
+pub fn place_limit(base: usize, dims: usize, free: usize) -> u16
+    requires { ⌜ (0 < base) × (free ≤ 16384) ⌝ }
+    ensures { λ r. ⌜ r ≡ placeLimit base dims free ⌝ }
+{
+    if free < dims {
+        return 0;
+    }
+    ((free - dims) / base + 1) as u16
 }
 
-fn entry_well(base: usize, dims: usize, free: usize, mark: u8, count: u16, place: u16) -> bool
-    requires { ⌜ (base ≤ 64) × (dims ≤ 64) ⌝ }
-    ensures { λ r. ⌜ r ≡ entryWell base dims free mark count place ⌝ }
+// Without a branch, so that the pass over the entries is compiled to vector instructions.
+fn entry_well(limit: u16, mark: u8, count: u16, place: u16) -> bool
+    ensures { λ r. ⌜ r ≡ entryWell limit mark count place ⌝ }
 {
-    if count == 0 {
-        if mark == 1 {
-            return place == 65535;
-        }
-        return false;
-    }
-    if mark == 1 {
-        return false;
-    }
-    if place == 65535 {
-        return false;
-    }
-    (place as usize) * base + dims <= free
+    let freed = mark == 1;
+    let dead = count == 0;
+    let empty = place == 65535;
+    let low = place < limit;
+    (freed == dead) & ((dead == empty) & (empty | low))
 }
 
 // No early exit: every entry is read.
 pub fn entries_well(
     n: usize,
-    base: usize,
-    dims: usize,
-    free: usize,
+    limit: u16,
     marks: &[u8],
     reference_count: &[u16],
     location: &[u16],
-) -> EntriesChecked
-    requires { ⌜ (base ≤ 64) × ((dims ≤ 64) × ((n ≤ length (now marks)) × ((n ≤ length (now «reference_count»)) × (n ≤ length (now location))))) ⌝ }
-    ensures { λ r. ⌜ (r .ok ≡ entriesWell n base dims free (now (marks .entry)) (now («reference_count» .entry)) (now (location .entry))) × (r .live ≡ countsLive n (now («reference_count» .entry))) ⌝ }
+) -> bool
+    requires { ⌜ (n ≤ length (now marks)) × ((n ≤ length (now «reference_count»)) × (n ≤ length (now location))) ⌝ }
+    ensures { λ r. ⌜ r ≡ entriesWell n limit (now (marks .entry)) (now («reference_count» .entry)) (now (location .entry)) ⌝ }
 {
     let mut ok = true;
-    let mut live: usize = 0;
     let mut i = 0;
     while i < n {
-        let count = reference_count[i];
-        let well = entry_well(base, dims, free, marks[i], count, location[i]);
+        let well = entry_well(limit, marks[i], reference_count[i], location[i]);
         ok = ok & well;
-        live += (count != 0) as usize;
         i += 1;
     }
-    EntriesChecked { ok, live }
+    ok
 }
 
 // Marks a place that is not empty; false where it is marked already.
