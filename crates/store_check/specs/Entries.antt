@@ -3,7 +3,7 @@ use Prim.Native.Nat.{ℕ, zero, suc, _+_, _-_, _/_, _≤_, _<_}
 use native.Mathlib.Omega.{arith}
 use mathlib.Core.Path.{_≡_}
 use mathlib.Core.List.{List}
-use mathlib.Core.Bool.{Bool, false, cond, _&&_, _||_, not, Bool·beq}
+use mathlib.Core.Bool.{Bool, true, false, cond, _&&_, _||_, not, Bool·beq}
 use lib.ListN.{getD, set}
 use lib.Dec.{ltb, eqb}
 use Rattle.terms.specs.Below.{everyBelow, countBelow}
@@ -31,12 +31,16 @@ unfoldable pub stands : ℕ → List ℕ → ℕ → Bool
 stands zero location place = false
 stands (suc n) location place = stands n location place || eqb place (getD location n 65535)
 
--- a place that is empty or not marked, and the marks with it
-unfoldable pub placeFresh : ℕ → List ℕ → Bool
-placeFresh place marks = eqb place 65535 || not (eqb (getD marks place 0) 1)
+-- a place that is not empty and is marked already, and the marks with it
+unfoldable pub placeMet : ℕ → List Bool → Bool
+placeMet place marks = not (eqb place 65535) && getD marks place false
 
-unfoldable pub placeMarked : ℕ → List ℕ → List ℕ
-placeMarked place marks = cond (eqb place 65535) marks (set marks place 1)
+unfoldable pub placeMarked : ℕ → List Bool → List Bool
+placeMarked place marks = cond (eqb place 65535) marks (set marks place true)
+
+-- no place is marked
+abbrev pub NoneMarked : List Bool → Type 0
+NoneMarked marks = (q : ℕ) → getD marks q false ≡ false
 
 -- the live places of the first n entries are below a limit
 abbrev pub PlacesBelow : ℕ → ℕ → List ℕ → Type 0

@@ -1,11 +1,9 @@
 // The points' half: the stack of free indices, the counts and the places.
-ghost use mathlib.Core.Bool.{true};
 ghost use mathlib.Core.Path.{_≡_};
 ghost use Prim.Native.Nat.{ℕ, _≤_, _<_};
 ghost use lib.ListN.{length, getD};
-ghost use Rattle.interval_store_manager.specs.Marks.{Unmarked};
 ghost use Rattle.store_definitions.specs.WellFormed.{placesDistinct};
-ghost use Rattle.store_check.specs.Entries.{placeLimit, entryWell, entriesWell, placeFresh, placeMarked, PlacesBelow};
+ghost use Rattle.store_check.specs.Entries.{placeLimit, entryWell, entriesWell, placeMet, placeMarked, NoneMarked, PlacesBelow};
 
 // The first place whose row would end past the free start: a row ends by it exactly where its place is below the limit.
 pub fn place_limit(base: usize, dims: usize, free: usize) -> u16
@@ -50,40 +48,40 @@ pub fn entries_well(
     ok
 }
 
-// Marks a place that is not empty; false where it is marked already.
-fn mark_place(place: u16, marks: &mut [u8]) -> bool
+// Marks a place that is not empty, and says whether it is marked already.
+fn mark_place(place: u16, marks: &mut [bool]) -> bool
     requires { ⌜ ((place ≡ 65535 → ⊥) → place < length (now marks)) ⌝ }
-    ensures { λ r. ⌜ (r ≡ placeFresh place (now (marks .entry))) × (now (marks .exit) ≡ placeMarked place (now (marks .entry))) ⌝ }
+    ensures { λ r. ⌜ (r ≡ placeMet place (now (marks .entry))) × (now (marks .exit) ≡ placeMarked place (now (marks .entry))) ⌝ }
 {
     if place == 65535 {
-        return true;
+        return false;
     }
     let at = place as usize;
-    let fresh = marks[at] != 1;
-    marks[at] = 1;
-    fresh
+    let met = marks[at];
+    marks[at] = true;
+    met
 }
 
 // Whether the live places of the first n entries are distinct: each is marked, and none may be marked already.
-fn mark_places(n: usize, location: &[u16], marks: &mut [u8]) -> bool
-    requires { ⌜ (n ≤ length (now location)) × (Unmarked (now marks) × PlacesBelow (length (now marks)) n (now location)) ⌝ }
+fn mark_places(n: usize, location: &[u16], marks: &mut [bool]) -> bool
+    requires { ⌜ (n ≤ length (now location)) × (NoneMarked (now marks) × PlacesBelow (length (now marks)) n (now location)) ⌝ }
     ensures { λ r. ⌜ r ≡ placesDistinct n (now (location .entry)) ⌝ }
 {
-    let mut ok = true;
+    let mut met = false;
     let mut i = 0;
     while i < n {
-        let fresh = mark_place(location[i], marks);
-        ok = ok & fresh;
+        let again = mark_place(location[i], marks);
+        met = met | again;
         i += 1;
     }
-    ok
+    !met
 }
 
 fn distinct_256(n: usize, location: &[u16]) -> bool
     requires { ⌜ (n ≤ length (now location)) × PlacesBelow 256 n (now location) ⌝ }
     ensures { λ r. ⌜ r ≡ placesDistinct n (now (location .entry)) ⌝ }
 {
-    let mut marks = [0u8; 256];
+    let mut marks = [false; 256];
     mark_places(n, location, &mut marks[..])
 }
 
@@ -91,7 +89,7 @@ fn distinct_1024(n: usize, location: &[u16]) -> bool
     requires { ⌜ (n ≤ length (now location)) × PlacesBelow 1024 n (now location) ⌝ }
     ensures { λ r. ⌜ r ≡ placesDistinct n (now (location .entry)) ⌝ }
 {
-    let mut marks = [0u8; 1024];
+    let mut marks = [false; 1024];
     mark_places(n, location, &mut marks[..])
 }
 
@@ -99,7 +97,7 @@ fn distinct_4096(n: usize, location: &[u16]) -> bool
     requires { ⌜ (n ≤ length (now location)) × PlacesBelow 4096 n (now location) ⌝ }
     ensures { λ r. ⌜ r ≡ placesDistinct n (now (location .entry)) ⌝ }
 {
-    let mut marks = [0u8; 4096];
+    let mut marks = [false; 4096];
     mark_places(n, location, &mut marks[..])
 }
 
@@ -107,7 +105,7 @@ fn distinct_16384(n: usize, location: &[u16]) -> bool
     requires { ⌜ (n ≤ length (now location)) × PlacesBelow 16384 n (now location) ⌝ }
     ensures { λ r. ⌜ r ≡ placesDistinct n (now (location .entry)) ⌝ }
 {
-    let mut marks = [0u8; 16384];
+    let mut marks = [false; 16384];
     mark_places(n, location, &mut marks[..])
 }
 
