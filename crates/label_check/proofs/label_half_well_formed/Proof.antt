@@ -25,13 +25,13 @@ slice-aggregate-mark-free : tie.Need-slice-aggregate-mark-free
 slice-aggregate-mark-free c = search needs
 
 mark-free-requires : tie.Need-mark-free-requires
-mark-free-requires c κs = (omega arith, unmarked 1024)
+mark-free-requires c κs = (λ h. h, unmarked 1024)
 
 slice-aggregate-mark-free-2 : tie.Need-slice-aggregate-mark-free-2
 slice-aggregate-mark-free-2 c = search needs
 
 mark-free-requires-2 : tie.Need-mark-free-requires-2
-mark-free-requires-2 c κs = (omega arith, unmarked 1024)
+mark-free-requires-2 c κs = (λ h. h, unmarked 1024)
 
 slice-aggregate-labels-pass : tie.Need-slice-aggregate-labels-pass
 slice-aggregate-labels-pass c = search needs

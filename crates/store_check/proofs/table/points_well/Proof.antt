@@ -24,7 +24,7 @@ slice-aggregate-mark-free : tie.Need-slice-aggregate-mark-free
 slice-aggregate-mark-free c = search needs
 
 mark-free-requires : tie.Need-mark-free-requires
-mark-free-requires c κs = (omega arith, unmarked 1024)
+mark-free-requires c κs = (λ h. h, unmarked 1024)
 
 slice-aggregate-entries-well : tie.Need-slice-aggregate-entries-well
 slice-aggregate-entries-well c = search needs
