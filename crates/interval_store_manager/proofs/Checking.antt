@@ -13,12 +13,8 @@ use Rattle.interval_store_manager.specs.declared.IntervalStoreManager.{I
 use Rattle.interval_store_manager.specs.Intervals.{inside, holders, isFree, freeNumber, inBounds, noneShared}
 use Rattle.interval_store_manager.specs.WellFormed.{capacityAllowed, lentEnough, wellFormed}
 use Rattle.interval_store_manager.specs.StackLaws.{sizes, free-number, none-shared}
-use Rattle.interval_store_manager.specs.Marks.{Marks, Swept, Marked}
-
--- the marks below the capacity are as many as the free indices
-marks-count : (c n : ℕ) (ss es marks : List ℕ) → Marks n ss es marks → sumBelow c (λ k. getD marks k 0) ≡ freeNumber c n ss es
-unfolding freeNumber countBelow
-marks-count c n ss es marks m = sum-same c (λ k. getD marks k 0) (λ k. one (isFree n ss es k)) (λ k l. m k)
+use Rattle.interval_store_manager.specs.Marks.{Swept, Marked}
+use Rattle.interval_store_manager.specs.MarkLaws.{marks-count}
 
 -- fewer than two intervals share no index, so their sizes count the marks
 pub few-marked : (c n : ℕ) (ss es marks : List ℕ) (total : ℕ) → Swept c n ss es marks true total → n < 2 → total ≡ sumBelow c (λ k. getD marks k 0)
