@@ -1,3 +1,4 @@
 pub mod Checks
 pub mod CheckLaws
 pub mod CheckedLaws
+pub mod SlotPass
