@@ -104,7 +104,7 @@ fn copied(b: Block, i: usize) {
     text(b"\n");
 }
 
-fn five_adds(b: Block) -> Block {
+pub fn five_adds(b: Block) -> Block {
     let b1 = add_two(b, 1, 2);
     let b2 = add_two(b1, 3, 4);
     let b3 = add_two(b2, 5, 6);

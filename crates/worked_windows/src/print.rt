@@ -2,6 +2,7 @@
 use libc::STDOUT_FILENO;
 use placement::Laid;
 use store_definitions::Added;
+use store_definitions::Adjusted;
 use store_definitions::Done;
 use store_definitions::Equality;
 use store_definitions::Kept;
@@ -79,6 +80,18 @@ pub fn done(d: Done) {
     match d {
         Done::Done => text(b"done"),
         Done::Refused(r) => refusal(r),
+    }
+}
+
+pub fn adjusted(a: Adjusted) {
+    match a {
+        Adjusted::Done => text(b"done"),
+        Adjusted::Refused(r, pairs) => {
+            refusal(r);
+            text(b" after ");
+            number(pairs);
+            text(b" pairs");
+        }
     }
 }
 
