@@ -13,7 +13,7 @@ use Rattle.interval_store_manager.specs.WellFormed.{lentEnough, wellForm
 use Rattle.interval_store_manager.specs.Answers.{Answer, refused, Outcome, outcome}
 use Rattle.interval_store_manager.specs.Calls.{Decided, go, refuse, carriedOut, changeDecided, getDecided, releaseDecided, reading}
 
-no-go : {A : Type 0} {n : ℕ} → refuse n ≡ go → A
+pub no-go : {A : Type 0} {n : ℕ} → refuse n ≡ go → A
 no-go {A} {n} e = absurd (let z : _≡_ {A = ℕ} 0 1 = cc in omega arith)
 
 checked-go : (k : ℕ) (a b : Bool) → cond a (cond b (refuse k) go) (refuse 1) ≡ go → (a ≡ true) × (b ≡ false)

@@ -3,13 +3,13 @@
 use Prim.Native.Nat.{ℕ, zero, suc, _+_, _-_, _≤_, _<_}
 use native.Mathlib.Omega.{arith}
 use native.Mathlib.Numerals.{add-one}
-use native.Mathlib.Decide.{decLt}
 use mathlib.Core.List.{List}
 use mathlib.Core.Path.{_≡_, _∙_, ap₂}
 use mathlib.Core.Logic.{⊎-elim}
 use lib.ListN.{length, getD, set}
 use lib.Seq.{getD-set-other, getD-set-same}
 use Rattle.terms.specs.Below.{one, below-or-last}
+use Rattle.terms.specs.Entries.{stored}
 use Rattle.interval_store_manager.specs.Intervals.{inside, holders}
 use Rattle.interval_store_manager.specs.StackLaws.{agree-set, agree-self, holders-same, Bounded}
 
@@ -52,18 +52,6 @@ bounded-fewer i h b = record { ordered = λ j l. b .ordered j (omega arith); bel
 
 pub bounded-wider : {c n : ℕ} {ss es : List ℕ} (d : ℕ) → c ≤ d → Bounded c n ss es → Bounded d n ss es
 bounded-wider d h b = record { ordered = b .ordered; below = λ j l. omega (arith, b .below j l) }
-
--- entry j after a store at t, for a fact that holds of what was stored and of every other entry
-stored : (P : ℕ → Type 0) (xs : List ℕ) (t v j : ℕ) → t < length xs → (j ≡ t → P v) → ((j ≡ t → ⊥) → P (getD xs j 0)) → P (getD (set xs t v) j 0)
-stored P xs t v j h same other =
-    elim (decLt j t) [
-      | yes l ↦ rw (getD-set-other xs t j v 0 (λ e. omega arith)) (other (λ e. omega arith))
-      | no g ↦
-          elim (decLt t j) [
-            | yes l ↦ rw (getD-set-other xs t j v 0 (λ e. omega arith)) (other (λ e. omega arith))
-            | no f ↦ let e : j ≡ t = omega arith in rw (e, getD-set-same xs t v 0 h) (same e)
-          ]
-    ]
 
 pub bounded-start : {c n : ℕ} {ss es : List ℕ} (v : ℕ) → 0 < n → n ≤ length ss → v ≤ getD es (n - 1) 0 → Bounded c n ss es → Bounded c n (set ss (n - 1) v) es
 bounded-start {c} {n} {ss} {es} v h g l b =

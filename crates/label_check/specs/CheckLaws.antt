@@ -13,7 +13,7 @@ use Rattle.terms.specs.Below.{one, both, and-make, fails, positive, everyBelow,
 use Rattle.terms.specs.Sums.{sum-most}
 use Rattle.terms.specs.Search.{firstBelow, first}
 use Rattle.labels.specs.Labels.{holdsClass, slotSum, labelStands, differ}
-use Rattle.labels.specs.CountedLaws.{stored}
+use Rattle.terms.specs.Entries.{stored}
 use Rattle.labels.specs.Sound.{differ-no, differ-yes}
 use Rattle.labels.specs.SlotLaws.{share}
 use Rattle.label_check.specs.Checks.{labelPasses, slotPasses, slotFits, Summed}

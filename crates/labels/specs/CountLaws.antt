@@ -7,8 +7,9 @@ use mathlib.Core.Path.{_≡_, refl, sym}
 use lib.ListN.{set}
 use lib.Seq.{getD-set-same, getD-set-other}
 use borrow.Author.Tests.{eq-eqb, ne-eqb}
+use Rattle.terms.specs.Entries.{stored}
 use Rattle.labels.specs.Counted.{Counted, countAt, raised, lowered}
-use Rattle.labels.specs.CountedLaws.{WellCounted, stored, raise-keeps, lower-keeps, lowered-counts}
+use Rattle.labels.specs.CountedLaws.{WellCounted, raise-keeps, lower-keeps, lowered-counts}
 use Rattle.labels.specs.Labels.{Labels, slotAt, labelCountAt, slotCountAt, withTables, labelRaised, labelLowered, slotSum}
 use Rattle.labels.specs.Sound.{Sound}
 use Rattle.labels.specs.SlotLaws.{sum-counted, slot-counts}

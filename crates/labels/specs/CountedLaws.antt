@@ -6,11 +6,11 @@ use native.Mathlib.Decide.{decLt, ℕ-discrete}
 use mathlib.Core.List.{List}
 use mathlib.Core.Bool.{Bool, true, false, not, _&&_, _||_, Bool·beq, and-true, and-false, or-true, or-false}
 use mathlib.Core.Path.{_≡_, refl, sym, _∙_, ap}
-use lib.ListN.{length, getD, set, length-set}
-use lib.Seq.{getD-set-same, getD-set-other}
+use lib.ListN.{length, set, length-set}
 use lib.Dec.{eqb}
 use borrow.Author.Tests.{eq-eqb, ne-eqb, eqb-true, le-leb, leb-true}
 use Rattle.terms.specs.Below.{both, and-make, every-at, every-make}
+use Rattle.terms.specs.Entries.{stored}
 use Rattle.interval_store_manager.specs.declared.IntervalStoreManager.{IntervalStoreManager}
 use Rattle.interval_store_manager.specs.WellFormed.{wellFormed}
 use Rattle.interval_store_manager.specs.Sound.{sound}
@@ -61,14 +61,6 @@ well-counted-make c t w =
     (and-make _ _ (le-leb c (length (t .counts)) (w .lent))
     (every-make c (λ k. Bool·beq (free t k) (eqb (countAt t k) 0))
     (λ i l. same-beq (free t i) (eqb (countAt t i) 0) (w .free-is i l)))))
-
--- a list after a store, by cases
-pub stored : (P : ℕ → Type 0) (xs : List ℕ) (i v k : ℕ) → i < length xs → (k ≡ i → P v) → ((k ≡ i → ⊥) → P (getD xs k 0)) → P (getD (set xs i v) k 0)
-stored P xs i v k h same other =
-    elim (ℕ-discrete k i) [
-      | yes e ↦ rw (e, getD-set-same xs i v 0 h) (same e)
-      | no d ↦ rw (getD-set-other xs i k v 0 d) (other d)
-    ]
 
 module _ (c : ℕ) (t : Counted) (w : WellCounted c t) where
   abbrev m : IntervalStoreManager

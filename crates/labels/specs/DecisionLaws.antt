@@ -11,12 +11,10 @@ use borrow.Author.Tests.{ltb-true, eqb-false, lt-ltb, eq-eqb, ne-eqb}
 use Rattle.terms.specs.Below.{both, fails, everyBelow, every-at, every-make}
 use Rattle.interval_store_manager.specs.declared.IntervalStoreManager.{IntervalStoreManager}
 use Rattle.interval_store_manager.specs.Calls.{go, refuse}
+use Rattle.interval_store_manager.specs.DecisionLaws.{no-go}
 use Rattle.labels.specs.Counted.{Counted, countAt, nextIndex}
 use Rattle.labels.specs.CountedLaws.{WellCounted, unused-stacked, next-within, next-unused}
 use Rattle.labels.specs.Decisions.{inUse, codeDecided, roomDecided, incDecided, decDecided}
-
-no-go : {A : Type 0} {n : ℕ} → refuse n ≡ go → A
-no-go {A} {n} e = absurd (let z : _≡_ {A = ℕ} 0 1 = cc in omega arith)
 
 -- a label index in use, taken apart
 pub in-use : (c : ℕ) (counts : List ℕ) (i : ℕ) → inUse true c counts i ≡ true → (i < c) × (0 < getD counts i 0)

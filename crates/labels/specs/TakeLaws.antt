@@ -6,12 +6,13 @@ use mathlib.Core.List.{List}
 use mathlib.Core.Path.{_≡_, _∙_, ap}
 use lib.ListN.{getD, set, length-set}
 use lib.Seq.{getD-set-same, getD-set-other}
+use Rattle.terms.specs.Entries.{stored}
 use Rattle.labels.specs.Classes.{classOf}
 use Rattle.interval_store_manager.specs.declared.IntervalStoreManager.{IntervalStoreManager}
 use Rattle.interval_store_manager.specs.Answers.{outcome, given}
 use Rattle.interval_store_manager.specs.Calls.{taken}
 use Rattle.labels.specs.Counted.{Counted, counted, countAt, nextIndex, indexTaken}
-use Rattle.labels.specs.CountedLaws.{stored, take-keeps, next-within, next-unused, index-given, index-taken}
+use Rattle.labels.specs.CountedLaws.{take-keeps, next-within, next-unused, index-given, index-taken}
 use Rattle.labels.specs.Labels.{Labels, codeAt, slotAt, labelCountAt, slotCountAt, SlotTaken, slotTaken, labelled, labelTaken, slotSum}
 use Rattle.labels.specs.Sound.{Stands, Sound}
 use Rattle.labels.specs.SlotLaws.{sum-labelled, slot-counts, slot-free}

@@ -11,11 +11,12 @@ use lib.Dec.{ltb, eqb}
 use borrow.Author.Tests.{eq-eqb, ne-eqb, eqb-true, lt-ltb, le-ltb, ltb-true}
 use Rattle.terms.specs.Below.{one, both}
 use Rattle.terms.specs.Search.{First, first, first-is}
+use Rattle.terms.specs.Entries.{stored}
 use Rattle.interval_store_manager.specs.declared.IntervalStoreManager.{IntervalStoreManager}
 use Rattle.interval_store_manager.specs.Answers.{outcome, given}
 use Rattle.interval_store_manager.specs.Calls.{taken}
 use Rattle.labels.specs.Counted.{Counted, counted, countAt, nextIndex, indexTaken, raised}
-use Rattle.labels.specs.CountedLaws.{WellCounted, stored, raise-keeps, take-keeps, next-within, next-unused, index-given, index-taken}
+use Rattle.labels.specs.CountedLaws.{WellCounted, raise-keeps, take-keeps, next-within, next-unused, index-given, index-taken}
 use Rattle.labels.specs.Labels.{holdsClass, classSlot, SlotTaken, slotTaken}
 use Rattle.labels.specs.Sound.{Distinct}
 

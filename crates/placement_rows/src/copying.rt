@@ -6,9 +6,9 @@ ghost use Prim.Native.Nat.{_+_, _*_, _^_, _≤_, _<_};
 ghost use lib.ListN.{length};
 ghost use Rattle.placement.specs.Copying.{turn, turned, copied};
 
-fn turned_by(rotation: bool, dimensions: usize, base: usize, place: usize) -> usize
+pub fn turned_by(rotation: bool, dimensions: usize, base: usize, place: usize) -> usize
     requires { ⌜ (0 < dimensions) × (place * base < 2 ^ 64) ⌝ }
-    ensures { λ r. ⌜ r ≡ turn rotation dimensions base place ⌝ }
+    ensures { λ r. ⌜ (r ≡ turn rotation dimensions base place) × (r ≤ dimensions) ⌝ }
 {
     if rotation {
         return place * base % dimensions;

@@ -14,6 +14,7 @@ mod words;
 
 pub use compaction::compact;
 pub use copying::copy;
+pub use copying::turned_by;
 pub use growth::fill_table;
 pub use growth::grow_store;
 pub use growth::grow_table;
@@ -26,6 +27,7 @@ pub use overlap::row_joins;
 pub use rows::head;
 pub use rows::move_window;
 pub use rows::row;
+pub use words::copy_from;
 pub use words::fill;
 
 // The place of an index that has no point, and the index of a place where none stands.

@@ -15,7 +15,7 @@ use Rattle.interval_store_manager.specs.declared.Decision.{Decision}
 use Rattle.interval_store_manager.specs.declared.Decision.the-variants.{Go, Refuse}
 use Rattle.interval_store_manager.specs.Calls.{Decided, go, refuse, decisionMeans}
 use Rattle.labels.specs.Counted.{raised}
-use Rattle.labels.specs.CountedLaws.{stored}
+use Rattle.terms.specs.Entries.{stored}
 use Rattle.labels.specs.Decisions.{none, inUse, incDecided, decDecided}
 use Rattle.labels.specs.Labels.{labelRaised}
 use Rattle.store_definitions.specs.Memory.{PointStore, pointStore}

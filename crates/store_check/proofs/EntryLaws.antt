@@ -1,22 +1,16 @@
 -- One more entry of the points' table.
-use Prim.Native.Nat.{ℕ, zero, suc, _+_, _*_, _≤_, _<_}
+use Prim.Native.Nat.{ℕ, _+_, _*_, _≤_}
 use native.Mathlib.Nat.{mul-le-mul-left, mul-le-mul-right}
 use native.Mathlib.Numerals.{add-one}
 use native.Mathlib.Omega.{arith}
-use mathlib.Core.List.{List, [], _∷_}
+use mathlib.Core.List.{List}
 use mathlib.Core.Bool.{Bool, true, false, _&&_, _||_, not, Bool·beq}
 use mathlib.Core.Path.{_≡_, refl, ap}
 use mir.Val.{boolByte}
-use lib.ListN.{length, getD}
+use lib.ListN.{getD}
 use lib.Dec.{eqb}
 use Rattle.terms.specs.Below.{one, everyBelow, sumBelow, countBelow}
 use Rattle.store_check.specs.Entries.{entryWell, entriesWell, countsLive}
-
--- an entry within a list is the same whatever stands past its end
-pub any-default : (xs : List ℕ) (i a b : ℕ) → i < length xs → getD xs i a ≡ getD xs i b
-any-default [] i a b h = absurd (omega arith)
-any-default (x ∷ xs) zero a b h = refl
-any-default (x ∷ xs) (suc i) a b h = any-default xs i a b (omega arith)
 
 pub entries-more : (i base dims free : ℕ) (marks counts location : List ℕ) (ok well : Bool) → ok ≡ entriesWell i base dims free marks counts location → well ≡ entryWell base dims free (getD marks i 0) (getD counts i 0) (getD location i 0) → (ok && well) ≡ entriesWell (i + 1) base dims free marks counts location
 unfolding entriesWell everyBelow

@@ -19,7 +19,7 @@ use Rattle.store_definitions.specs.WellFormed.{placesDistinct, placesEnd}
 use Rattle.store_laws.specs.BoundsLaws.{in-bounds, base-some, base-divides}
 use Rattle.store_check.specs.Entries.{entryWell, entriesWell, PlacesBelow}
 use Rattle.store_check.specs.PointsTest.{pointsTest, PointsReady}
-use Rattle.store_check.proofs.EntryLaws.{any-default}
+use Rattle.terms.specs.Entries.{any-default}
 
 -- tests that agree below n
 every-same : (n : ℕ) (p q : ℕ → Bool) → ((i : ℕ) → i < n → p i ≡ q i) → everyBelow n p ≡ everyBelow n q

@@ -8,6 +8,7 @@ mod read;
 
 pub use decide::dec_test;
 pub use decide::inc_test;
+pub use decide::point_in_use;
 pub use lower::dec;
 pub use lower::dec_accepted;
 pub use lower::dec_well_formed;

@@ -9,9 +9,10 @@ use lib.ListN.{length, getD, set, length-set}
 use lib.Seq.{getD-set-same, getD-set-other}
 use lib.Dec.{eqb}
 use borrow.Author.Tests.{eq-eqb, ne-eqb}
+use Rattle.terms.specs.Entries.{stored}
 use Rattle.interval_store_manager.specs.Calls.{Decided, go, refuse}
 use Rattle.labels.specs.Counted.{raised, lowered}
-use Rattle.labels.specs.CountedLaws.{stored, raise-keeps, lower-keeps, lowered-counts}
+use Rattle.labels.specs.CountedLaws.{raise-keeps, lower-keeps, lowered-counts}
 use Rattle.labels.specs.Decisions.{none, incDecided, decDecided}
 use Rattle.labels.specs.Labels.{labelRaised, labelLowered}
 use Rattle.labels.specs.CountLaws.{inc-keeps as label-inc-keeps, dec-keeps as label-dec-keeps}

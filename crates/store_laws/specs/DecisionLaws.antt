@@ -9,15 +9,13 @@ use lib.Dec.{ltb, eqb}
 use borrow.Author.Tests.{ltb-true, eqb-false}
 use Rattle.terms.specs.Below.{both}
 use Rattle.interval_store_manager.specs.Calls.{Decided, go, refuse}
+use Rattle.interval_store_manager.specs.DecisionLaws.{no-go}
 use Rattle.labels.specs.Decisions.{inUse, incDecided, decDecided}
 use Rattle.store_definitions.specs.Memory.{PointStore}
 use Rattle.store_definitions.specs.Parts.{tableLength}
 use Rattle.store_definitions.specs.Answers.{Outcome}
 use Rattle.store_definitions.specs.Decisions.{andThen, refuseIf, formDecided, live, touchDecided, carriedOut}
 use Rattle.store_definitions.specs.WellFormed.{wellFormed}
-
-pub no-go : {A : Type 0} {n : ℕ} → refuse n ≡ go → A
-no-go {A} {n} e = absurd (let z : _≡_ {A = ℕ} 0 1 = cc in omega arith)
 
 pub both-go : (a b : Decided) → andThen a b ≡ go → (a ≡ go) × (b ≡ go)
 both-go go b e = (refl, e)

@@ -26,7 +26,7 @@ use Rattle.store_laws.specs.LentLaws.{PointsLent, LabelsLent, Lent, lent
 use Rattle.store_laws.specs.PlacesLaws.{live-below, live-placed}
 use Rattle.store_laws.specs.Sound.{RowsSound, Sound, sound-make}
 use Rattle.store_laws.specs.Cases.{by-cases}
-use Rattle.store_laws.specs.DecisionLaws.{no-go}
+use Rattle.interval_store_manager.specs.DecisionLaws.{no-go}
 
 -- what an accepted opening rests on
 pub record Openable {E : Type 0} (h : Shape) (m : Memory E) : Type 0 where

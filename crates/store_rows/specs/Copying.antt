@@ -41,7 +41,7 @@ readable p e =
     }
 
 -- the code's read of a place; past the end of a list it would find another
-read-place : (location : List ℕ) (i : ℕ) → i < length location → getD location i 65535 ≡ getD location i 0
+pub read-place : (location : List ℕ) (i : ℕ) → i < length location → getD location i 65535 ≡ getD location i 0
 read-place location i h =
     ap (λ (l : List ℕ). getD l 0 0) (sym (drop-cons location i 65535 h) ∙ drop-cons location i 0 h)
 

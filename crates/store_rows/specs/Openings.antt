@@ -30,7 +30,7 @@ use Rattle.store_definitions.specs.Bounds.{boundsHold, startAllowed, labelsLent
 use Rattle.store_definitions.specs.Parts.{labelHalf, withLabels}
 use Rattle.store_definitions.specs.Opening.{openDecided, freshRecord, filledFirst, openedMemory, opened, OpenOutcome, opens, refuses, openSpec}
 use Rattle.store_laws.specs.BoundsLaws.{InBounds, in-bounds, start-allowed}
-use Rattle.store_laws.specs.DecisionLaws.{no-go}
+use Rattle.interval_store_manager.specs.DecisionLaws.{no-go}
 
 -- what an opening's answer stands for, with the memory after it; the record of a refused one plays no part
 abbrev pub openedAs : Done → Store → Memory ℕ → OpenOutcome ℕ

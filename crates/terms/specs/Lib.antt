@@ -1,4 +1,5 @@
 pub mod Below
+pub mod Entries
 pub mod Refusals
 pub mod Rows
 pub mod Search

@@ -1,6 +1,6 @@
 -- The row at the place is turned by its turn.
 use lib.ListN.{length-take, length-drop}
-use Rattle.placement_rows.proofs.Runs.{turn-within, copy-turned}
+use Rattle.placement_rows.proofs.Runs.{copy-turned}
 use borrow.Author.Needs.{needs}
 use native.Mathlib.Omega.{arith}
 use Rattle.placement_rows.proofs.copying.copy.Statement.{statement}
@@ -10,12 +10,7 @@ turned-by-requires : tie.Need-turned-by-requires
 turned-by-requires c κs = search needs
 
 sub-others : tie.Need-sub-others
-sub-others c =
-    let start = c .before .before .before in
-    let a = start .args in
-    let turn = c .turned-by in
-    let small = turn-within (a .rotation) (a .dimensions) (a .base) (a .place) (turn .result) (start .pre .0) (turn .ensures) in
-    small
+sub-others c = c .turned-by .ensures .1
 
 mul-start : tie.Need-mul-start
 mul-start c = search needs
@@ -38,9 +33,7 @@ part-copy-turned-end c = search needs
 copy-turned-requires : tie.Need-copy-turned-requires
 copy-turned-requires c κs =
     let start = c .before .before .before .before .before in
-    let a = start .args in
-    let turn = c .before .before .turned-by in
-    let small = turn-within (a .rotation) (a .dimensions) (a .base) (a .place) (turn .result) (start .pre .0) (turn .ensures) in
+    let small = c .before .before .turned-by .ensures .1 in
     (simp (length-take, length-drop) (omega (arith, start .pre)), omega (arith, start .pre))
 
 same-length : tie.Need-same-length
@@ -51,8 +44,7 @@ returns c =
     let start = c .before .before .before .before .before .before .before .before in
     let a = start .args in
     let turn = c .before .before .before .before .before .turned-by in
-    let small = turn-within (a .rotation) (a .dimensions) (a .base) (a .place) (turn .result) (start .pre .0) (turn .ensures) in
-    copy-turned (a .rotation) (a .dimensions) (a .base) (a .place) (turn .result) (a .store .now) (c .before .before .copy-turned .last .1 .0) small (turn .ensures) (c .before .before .copy-turned .ensures)
+    copy-turned (a .rotation) (a .dimensions) (a .base) (a .place) (turn .result) (a .store .now) (c .before .before .copy-turned .last .1 .0) (turn .ensures .1) (turn .ensures .0) (c .before .before .copy-turned .ensures)
 
 pub copy-spec : {M : Type 1} → statement M
 copy-spec =

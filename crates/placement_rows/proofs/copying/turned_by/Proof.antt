@@ -1,4 +1,7 @@
 -- By cases on the flag.
+use Prim.Native.Nat.{_*_}
+use native.Mathlib.Nat.{le-of-lt, mod-lt}
+use native.Mathlib.Omega.{arith}
 use Rattle.placement.specs.Copying.{turn}
 use borrow.Author.Needs.{needs}
 use Rattle.placement_rows.proofs.copying.turned_by.Statement.{statement}
@@ -12,11 +15,11 @@ rem-result c = search needs
 
 returns : tie.Need-returns
 unfolding turn
-returns c = rw (c .if1 .taken)
+returns c = let a = c .before .args in (rw (c .if1 .taken), le-of-lt (mod-lt (a .place * a .base) (c .before .pre .0)))
 
 returns-2 : tie.Need-returns-2
 unfolding turn
-returns-2 c = rw (c .if1 .left)
+returns-2 c = (rw (c .if1 .left), omega arith)
 
 pub turned-by-spec : {M : Type 1} → statement M
 turned-by-spec = tie.close (tie.spec mul-result rem-result returns returns-2)

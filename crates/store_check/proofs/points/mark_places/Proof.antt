@@ -8,7 +8,7 @@ use borrow.Author.Needs.{scaled-fits}
 use Rattle.terms.specs.Below.{everyBelow}
 use Rattle.store_definitions.specs.WellFormed.{placesDistinct}
 use Rattle.store_check.specs.Entries.{placeFresh, placeMarked}
-use Rattle.store_check.proofs.EntryLaws.{any-default}
+use Rattle.terms.specs.Entries.{any-default}
 use Rattle.store_check.proofs.PlaceLaws.{PlacesMarked, none-marked, marks-more, distinct-more}
 use Rattle.store_check.proofs.points.mark_places.Statement.{statement}
 use Rattle.store_check.proofs.points.mark_places.Tie as tie

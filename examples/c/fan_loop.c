@@ -1,0 +1,93 @@
+/*
+ * A fan loop: temperature readings go into a store of windows, counts of kept windows are moved from the oldest to the newest,
+ * the store is compacted, and the windows that are left are printed.
+ */
+#include <inttypes.h>
+#include <stdio.h>
+#include <stdlib.h>
+
+#include "point_store.h"
+
+enum { DIMENSIONS = 4, SHINGLE_SIZE = 4, CAPACITY = 8, LABELS = 1, KEPT = 3 };
+
+/* Codes 0 to 23 say why a window was kept; the first ones are of class 0, 6 is of class 2. */
+enum { STEADY = 0, RISING = 6 };
+
+static float floats[PS_FLOATS(CAPACITY, DIMENSIONS)];
+static float window[DIMENSIONS];
+static uint16_t reference_count[CAPACITY], location[CAPACITY], index_starts[CAPACITY], index_ends[CAPACITY];
+static uint8_t labels[CAPACITY], attributes[CAPACITY];
+static uint16_t label_attributes[CAPACITY], label_count[CAPACITY], label_starts[CAPACITY], label_ends[CAPACITY];
+static uint32_t attribute_count[CAPACITY];
+static uint16_t attribute_starts[CAPACITY], attribute_ends[CAPACITY];
+
+static const struct ps_memory lent = {
+    floats, PS_FLOATS(CAPACITY, DIMENSIONS), window, DIMENSIONS, reference_count, CAPACITY, location, CAPACITY,
+    index_starts, CAPACITY, index_ends, CAPACITY, labels, CAPACITY, label_attributes, CAPACITY, label_count, CAPACITY,
+    label_starts, CAPACITY, label_ends, CAPACITY, attributes, CAPACITY, attribute_count, CAPACITY,
+    attribute_starts, CAPACITY, attribute_ends, CAPACITY,
+};
+
+static void accepted(uint64_t number, const char *call) {
+    if (number != PS_OK) {
+        fprintf(stderr, "%s refused with %" PRIu64 ": %s\n", call, number, ps_refusal_text(number));
+        exit(1);
+    }
+}
+
+static void print_windows(struct ps_store *s) {
+    float row[DIMENSIONS];
+    uint64_t count;
+    for (size_t i = 0; i < CAPACITY; i++) {
+        if (ps_store_count(s, i, &count) != PS_OK)
+            continue;
+        accepted(ps_store_copy(s, i, row, DIMENSIONS), "copy");
+        printf("  index %zu, count %" PRIu64 ":", i, count);
+        for (size_t k = 0; k < DIMENSIONS; k++)
+            printf(" %.1f", (double)row[k]);
+        printf("\n");
+    }
+}
+
+int main(void) {
+    static const float readings[] = {41.0f, 41.5f, 42.0f, 44.5f, 48.0f, 53.5f, 55.0f, 55.5f, 54.0f};
+    static const struct ps_shape shape = {DIMENSIONS, SHINGLE_SIZE, CAPACITY, CAPACITY, 1, 0, LABELS};
+    struct ps_store s = {{0}, {0}};
+    struct ps_added kept[sizeof readings / sizeof readings[0]];
+    size_t live = 0, oldest = 0;
+    uint64_t free_start, number, pairs_before;
+
+    s.memory = lent;
+    accepted(ps_store_open(&s, &shape), "open");
+
+    for (size_t i = 0; i < sizeof readings / sizeof readings[0]; i++) {
+        struct ps_added added = {0, 0, 0, 0, 0};
+        size_t code = i > 0 && readings[i] - readings[i - 1] > 2.0f ? RISING : STEADY;
+        accepted(ps_store_add(&s, &readings[i], 1, code, &added), "add");
+        if (!added.kept) {
+            printf("%.1f: the window fills\n", (double)readings[i]);
+            continue;
+        }
+        printf("%.1f: index %" PRIu64 ", %s at place %" PRIu64 "\n", (double)readings[i], added.index,
+            added.joined ? "joined" : "whole", added.place);
+        kept[live++] = added;
+        if (live - oldest > KEPT) {
+            /* the newest window counts once more, the oldest one goes */
+            struct ps_pair pair = {added.index, added.label_index, kept[oldest].index, kept[oldest].label_index};
+            accepted(ps_store_adjust(&s, &pair, 1, &pairs_before), "adjust");
+            oldest++;
+        }
+    }
+
+    accepted(ps_store_free_start(&s, &free_start), "free_start");
+    accepted(ps_store_live_number(&s, &number), "live_number");
+    printf("%" PRIu64 " windows, free start %" PRIu64 "\n", number, free_start);
+    accepted(ps_store_compact(&s), "compact");
+    accepted(ps_store_free_start(&s, &free_start), "free_start");
+    printf("compacted: free start %" PRIu64 "\n", free_start);
+    print_windows(&s);
+
+    number = ps_store_dec(&s, CAPACITY, PS_NONE);
+    printf("dec of index %d: refused with %" PRIu64 ", %s\n", CAPACITY, number, ps_refusal_text(number));
+    return 0;
+}
