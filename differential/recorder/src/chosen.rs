@@ -16,11 +16,14 @@ const SPECIAL: [u32; 10] = [
     0x7f7f_ffff,
 ];
 
+/// The program that replays the calls holds its memory by value: at most 64 points and so many floats.
+const MOST_FLOATS: usize = 1_024;
+
 pub fn any_opening(random: &mut Random) -> Opening {
     let most = [4, 4, 8, 8, 64][random.below(5)];
     let dimensions = random.within(1, most);
     let divisors: Vec<usize> = (1..=dimensions).filter(|d| dimensions % d == 0).collect();
-    let largest = [6, 12, 30, 200][random.below(4)];
+    let largest = [6, 12, 30, 64][random.below(4)].min(MOST_FLOATS / dimensions);
     let capacity = random.within(1, largest);
     Opening {
         dimensions,

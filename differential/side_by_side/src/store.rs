@@ -14,6 +14,7 @@ mod memory;
 mod model;
 mod model_readings;
 mod model_rows;
+mod name;
 mod recorded;
 mod refused_pairs;
 mod rust_side;
@@ -100,6 +101,12 @@ fn recorded() -> Result<Coverage, String> {
     Ok(coverage)
 }
 
+fn name() -> Result<Coverage, String> {
+    let mut coverage = Coverage::new("the library's name", &name::KINDS);
+    name::of_every_length(&mut coverage)?;
+    Ok(coverage)
+}
+
 fn differences() -> Result<Coverage, String> {
     let mut coverage = Coverage::new(
         "store, each difference from the Rust at its smallest input",
@@ -154,7 +161,8 @@ fn rubbish() -> Result<Coverage, String> {
 type Part = fn() -> Result<Coverage, String>;
 
 /// The random lists come last, in four parts under one title.
-const PARTS: [Part; 12] = [
+const PARTS: [Part; 13] = [
+    name,
     differences,
     recorded,
     broken,
