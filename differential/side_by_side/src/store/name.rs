@@ -11,9 +11,16 @@ pub fn of_every_length(coverage: &mut Coverage) -> Result<(), String> {
     for n in 0..=2 * NAME.len() {
         let mut out = vec![UNTOUCHED; n];
         let value = library::store::name(&mut out);
-        let owed = if n == NAME.len() { (0, NAME.as_bytes().to_vec()) } else { (3, vec![UNTOUCHED; n]) };
+        let owed = if n == NAME.len() {
+            (0, NAME.as_bytes().to_vec())
+        } else {
+            (3, vec![UNTOUCHED; n])
+        };
         if (value, out.clone()) != owed {
-            return Err(format!("the name in {n} bytes: {value}, {}", String::from_utf8_lossy(&out)));
+            return Err(format!(
+                "the name in {n} bytes: {value}, {}",
+                String::from_utf8_lossy(&out)
+            ));
         }
         coverage.meet(if n == NAME.len() { KINDS[0] } else { KINDS[1] });
     }
