@@ -128,6 +128,15 @@ prototypes! {
     ps_attribute_vec(label: usize, out: *mut f32, out_len: usize);
 }
 
+extern "C" {
+    fn ps_name(out: *mut u8, out_len: usize) -> u64;
+}
+
+/// The library's name; `out` is exactly as long as the text.
+pub fn name(out: &mut [u8]) -> u64 {
+    unsafe { ps_name(out.as_mut_ptr(), out.len()) }
+}
+
 // Every call lends the vectors of one store for the call alone: they are valid and do not overlap, which is all that the
 // library asks of a caller. A reading is lent them as it is lent to a call that changes them, so that a wrong write shows.
 macro_rules! lend {

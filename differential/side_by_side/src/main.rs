@@ -10,9 +10,6 @@ use std::process::ExitCode;
 
 /// The parts that the sown fault, if any, belongs to.
 fn parts() -> Result<(), String> {
-    if std::env::var_os("STORE_ALONE").is_some() {
-        return store::run();
-    }
     if mutant::is_none_but(&mutant::OF_THE_MANAGER) {
         manager::run()?;
     }

@@ -14,7 +14,9 @@ mod memory;
 mod model;
 mod model_readings;
 mod model_rows;
+mod name;
 mod recorded;
+mod refused_pairs;
 mod rust_side;
 mod short_lists;
 mod sides;
@@ -55,6 +57,7 @@ const RANDOM_CALLS: u64 = 5_000_000;
 const MADE_UP_CALLS: u64 = 3_000_000;
 const RUBBISH_CALLS: u64 = 2_000_000;
 const BROKEN_EACH: u64 = 1_000;
+const REFUSED_PAIRS_STORES: u64 = 10_000;
 
 fn random_lists(seed: u64) -> Result<Coverage, String> {
     // 1 and 2 need other memory and shapes, 7 needs 65,534 incs.
@@ -98,6 +101,12 @@ fn recorded() -> Result<Coverage, String> {
     Ok(coverage)
 }
 
+fn name() -> Result<Coverage, String> {
+    let mut coverage = Coverage::new("the library's name", &name::KINDS);
+    name::of_every_length(&mut coverage)?;
+    Ok(coverage)
+}
+
 fn differences() -> Result<Coverage, String> {
     let mut coverage = Coverage::new(
         "store, each difference from the Rust at its smallest input",
@@ -130,9 +139,20 @@ fn broken() -> Result<Coverage, String> {
     Ok(coverage)
 }
 
+fn refused_pairs() -> Result<Coverage, String> {
+    let owed = [&refused_pairs::PLACES[..], &refused_pairs::CAUSES];
+    let mut coverage = counts("store, adjusts with a refused pair in every place", &owed);
+    refused_pairs::in_every_place(14, share(REFUSED_PAIRS_STORES), &mut coverage)?;
+    Ok(coverage)
+}
+
 fn rubbish() -> Result<Coverage, String> {
     let refusals = kinds::refusals(|_, number| number > 2);
-    let owed = [&["spoiled and still well-formed"][..], &kinds::accepted(), &refusals];
+    let owed = [
+        &["spoiled and still well-formed", "nothing but rubbish"][..],
+        &kinds::accepted(),
+        &refusals,
+    ];
     let mut coverage = counts("store, rubbish in the memory, any opening", &owed);
     beyond::rubbish(13, share(RUBBISH_CALLS), &mut coverage)?;
     Ok(coverage)
@@ -141,10 +161,12 @@ fn rubbish() -> Result<Coverage, String> {
 type Part = fn() -> Result<Coverage, String>;
 
 /// The random lists come last, in four parts under one title.
-const PARTS: [Part; 11] = [
+const PARTS: [Part; 13] = [
+    name,
     differences,
     recorded,
     broken,
+    refused_pairs,
     rubbish,
     limits,
     made_up,

@@ -165,6 +165,47 @@ fn spoil(m: &mut Lent, random: &mut Random) {
     }
 }
 
+fn flag(random: &mut Random) -> usize {
+    match random.below(30) {
+        0 => any_number(random),
+        _ => random.below(2),
+    }
+}
+
+/// Words and slices of any length, of small numbers and others.
+fn all_rubbish(random: &mut Random) -> Lent {
+    let number = |random: &mut Random| {
+        if random.one_in(6) {
+            any_number(random)
+        } else {
+            random.below(4)
+        }
+    };
+    macro_rules! slice {
+        ($most:expr) => {
+            (0..random.below($most)).map(|_| number(random) as _).collect()
+        };
+    }
+    Lent {
+        words: slice!(18),
+        store: slice!(20),
+        last_known_shingle: slice!(6),
+        reference_count: slice!(6),
+        location: slice!(6),
+        index_starts: slice!(6),
+        index_ends: slice!(6),
+        labels: slice!(6),
+        label_attributes: slice!(6),
+        label_count: slice!(6),
+        label_starts: slice!(6),
+        label_ends: slice!(6),
+        attributes: slice!(6),
+        attribute_count: slice!(6),
+        attribute_starts: slice!(6),
+        attribute_ends: slice!(6),
+    }
+}
+
 fn any_opening(random: &mut Random) -> Opening {
     let size = |usual: usize, random: &mut Random| match random.below(6) {
         0 => any_number(random),
@@ -175,9 +216,9 @@ fn any_opening(random: &mut Random) -> Opening {
         shingle_size: size(5, random),
         capacity: size(14, random),
         initial_capacity: size(14, random),
-        internal_shingling: random.below(2) + random.one_in(30) as usize,
-        internal_rotation: random.below(2) + random.one_in(30) as usize,
-        store_labels: random.below(2) + random.one_in(30) as usize,
+        internal_shingling: flag(random),
+        internal_rotation: flag(random),
+        store_labels: flag(random),
     }
 }
 
@@ -187,8 +228,13 @@ pub fn rubbish(seed: u64, calls: u64, coverage: &mut Coverage) -> Result<(), Str
     while coverage.count("calls") < calls {
         let bounds = any_bounds(&mut random);
         let mut m = any_store(bounds, &mut random);
-        for _ in 0..random.within(1, 3) {
-            spoil(&mut m, &mut random);
+        if random.one_in(6) {
+            m = all_rubbish(&mut random);
+            coverage.meet("nothing but rubbish");
+        } else {
+            for _ in 0..random.within(1, 3) {
+                spoil(&mut m, &mut random);
+            }
         }
         let mut sides = Sides::over(m);
         let taste: Taste = any_taste(&mut random);

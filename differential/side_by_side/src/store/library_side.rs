@@ -13,20 +13,7 @@ fn keep(words: &mut [u32], floats: &[f32]) {
     }
 }
 
-#[cfg(not(feature = "readings"))]
 pub fn made(call: &Call, m: &mut Lent) -> Returned {
-    if call.kind() >= 10 {
-        return super::model::made(call, m, &mut Vec::new());
-    }
-    made_by_all(call, m)
-}
-
-#[cfg(feature = "readings")]
-pub fn made(call: &Call, m: &mut Lent) -> Returned {
-    made_by_all(call, m)
-}
-
-pub fn made_by_all(call: &Call, m: &mut Lent) -> Returned {
     let mut r = Returned::lent(call);
     let first = &mut r.numbers[0];
     r.value = match call {

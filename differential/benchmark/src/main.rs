@@ -1,0 +1,39 @@
+//! Times the library and the Rust on the same inputs in one process, prints a table of ratios and draws a chart of them.
+mod c_loop;
+mod chart;
+mod measured;
+mod sides;
+mod timed;
+
+use measured::{Row, CHECK};
+
+fn print(rows: &[Row]) {
+    println!("| What | Capacity | Labels | Library, ns | Rust, ns | Ratio |");
+    println!("|---|---|---|---|---|---|");
+    for row in rows {
+        let labels = if row.labels { "on" } else { "off" };
+        let of = if row.what == CHECK { " (C)" } else { "" };
+        println!(
+            "| {} | {} | {labels} | {:.0} | {:.0}{of} | {:.2} |",
+            row.what,
+            row.capacity,
+            row.here,
+            row.there,
+            row.here / row.there
+        );
+    }
+}
+
+fn main() {
+    let path = std::env::args().nth(1).expect("the picture to write");
+    let mut rows = Vec::new();
+    for labels in [false, true] {
+        for capacity in [64, 256, 1024] {
+            rows.extend(measured::rows(capacity, labels));
+        }
+    }
+    let order: Vec<&str> = rows.iter().take(8).map(|row| row.what).collect();
+    rows.sort_by_key(|row| order.iter().position(|what| *what == row.what));
+    print(&rows);
+    std::fs::write(&path, chart::drawn(&rows)).expect(&path);
+}
