@@ -1,7 +1,7 @@
 -- Where the loop over the caller's pairs stands, and what its steps make of that.
 use Prim.Native.Nat.{ℕ, suc, _+_, _≤_, _<_, zero-le}
 use native.Mathlib.Numerals.{add-one, add-one-le}
-use mathlib.Core.Bool.{Bool, true, false, not}
+use mathlib.Core.Bool.{Bool, true, false, not, true≢false, false≢true}
 use mathlib.Core.List.{List, [], _∷_}
 use mathlib.Core.Path.{_≡_, refl, sym, _∙_, ap}
 use lib.ListN.{length, getD, drop, drop-of-length-le}
@@ -16,7 +16,7 @@ use Rattle.store_adjust.specs.Run.{spec-well, spec-ill}
 use Rattle.store_adjust_pairs.specs.declared.PairStep.{PairStep}
 use Rattle.store_adjust_pairs.specs.Records.{pairingOf, pairingsOf}
 use Rattle.store_adjust_pairs.specs.Steps.{accepted, comesTo}
-use Rattle.store_adjust_pairs.specs.StepLaws.{not-both, one-keeps, one-done, one-goes-on, one-ends}
+use Rattle.store_adjust_pairs.specs.StepLaws.{one-keeps, one-done, one-goes-on, one-ends}
 
 -- what a list gives where it has no pair
 abbrev pub noPair : Pair
@@ -65,14 +65,14 @@ module _ (ps : List Pair) (p₀ : PointStore ℕ) (r : PairStep) (m : Memory ℕ
             run = ap (λ (o : Outcome ℕ). adjustFrom 0 (pairingsOf ps) (o .after)) x ∙ spec-well p₀ (pairingsOf ps) f;
           }
       split false f =
-          absurd (not-both (holds (r .ok) ok) (e .0 ∙ ap (λ (o : Outcome ℕ). accepted (o .answer)) (ill-first f)))
+          absurd (true≢false (sym (holds (r .ok) ok) ∙ (e .0 ∙ ap (λ (o : Outcome ℕ). accepted (o .answer)) (ill-first f))))
 
   pub not-begun : T (not (r .ok)) → endOf r m ≡ adjustSpec p₀ (pairingsOf ps)
   not-begun bad = split (wellFormed p₀) refl
     where
       split : (b : Bool) → wellFormed p₀ ≡ b → endOf r m ≡ adjustSpec p₀ (pairingsOf ps)
       split true f =
-          absurd (not-both (e .0 ∙ ap (λ (o : Outcome ℕ). accepted (o .answer)) (well-first f)) (fails (r .ok) bad))
+          absurd (false≢true (sym (fails (r .ok) bad) ∙ (e .0 ∙ ap (λ (o : Outcome ℕ). accepted (o .answer)) (well-first f))))
       split false f = ill-first f ∙ spec-ill p₀ (pairingsOf ps) f
 
 -- one pair, and the end of the list

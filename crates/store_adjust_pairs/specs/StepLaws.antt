@@ -1,10 +1,10 @@
 -- The check as an adjust of no pair and one pair as a list of one: what the steps of the loop come to, and what a pair leaves of the
 -- list that it begins.
 use Prim.Native.Nat.{ℕ, suc}
-use mathlib.Core.Bool.{Bool, true, false, cond}
+use mathlib.Core.Bool.{Bool, true, false, cond, true≢false, false≢true}
 use mathlib.Core.List.{List, [], _∷_}
-use mathlib.Core.Path.{_≡_, refl, sym, _∙_, ap, ap₂, subst}
-use lib.Dec.{T, eqb}
+use mathlib.Core.Path.{_≡_, refl, sym, _∙_, ap, ap₂}
+use lib.Dec.{eqb}
 use Rattle.interval_store_manager.specs.Calls.{Decided, go, refuse}
 use Rattle.labels.specs.Decisions.{none}
 use Rattle.store_definitions.specs.declared.DoneResult.{DoneResult}
@@ -22,9 +22,6 @@ use Rattle.store_adjust.specs.PairLaws.{pair-keeps}
 use Rattle.store_adjust.specs.Run.{spec-well, spec-ill}
 use Rattle.store_adjust_pairs.specs.declared.PairStep.{PairStep}
 use Rattle.store_adjust_pairs.specs.Steps.{accepted, checkedMeans, afterPairs, comesTo}
-
-pub not-both : {b : Bool} → b ≡ true → b ≡ false → ⊥
-not-both e f = subst T (sym e ∙ f) tt
 
 module _ {E : Type 0} (p : PointStore E) (q : Pairing) (n : ℕ) where
   abbrev one : Outcome E
@@ -50,7 +47,7 @@ module _ {E : Type 0} (p : PointStore E) (q : Pairing) (n : ℕ) where
       split : (b : Bool) (d : Decided) → accepted (cond b (outcome done p) (pairCarriedOut d p n (adjustFrom (suc n) []) (pairDone p q)) .answer) ≡ true → cond b (outcome done p) (pairCarriedOut d p n (adjustFrom (suc n) []) (pairDone p q)) .answer ≡ done
       split true d f = refl
       split false go f = refl
-      split false (refuse k) f = absurd (not-both f refl)
+      split false (refuse k) f = absurd (false≢true f)
 
   module _ (qs : List Pairing) where
     -- an accepted pair leaves the rest to be done, a refused one ends the call
@@ -61,15 +58,15 @@ module _ {E : Type 0} (p : PointStore E) (q : Pairing) (n : ℕ) where
         split : (b : Bool) (d : Decided) → accepted (cond b (outcome done p) (pairCarriedOut d p n (adjustFrom (suc n) []) (pairDone p q)) .answer) ≡ true → cond b (adjustFrom (suc n) qs p) (pairCarriedOut d p n (adjustFrom (suc n) qs) (pairDone p q)) ≡ adjustFrom (suc n) qs (cond b (outcome done p) (pairCarriedOut d p n (adjustFrom (suc n) []) (pairDone p q)) .after)
         split true d f = refl
         split false go f = refl
-        split false (refuse k) f = absurd (not-both f refl)
+        split false (refuse k) f = absurd (false≢true f)
 
     pub one-ends : accepted (one .answer) ≡ false → adjustFrom n (q ∷ qs) p ≡ one
     unfolding adjustFrom
     one-ends a = split (eqb (q .insertIndex) none) (pairDecided p q) a
       where
         split : (b : Bool) (d : Decided) → accepted (cond b (outcome done p) (pairCarriedOut d p n (adjustFrom (suc n) []) (pairDone p q)) .answer) ≡ false → cond b (adjustFrom (suc n) qs p) (pairCarriedOut d p n (adjustFrom (suc n) qs) (pairDone p q)) ≡ cond b (outcome done p) (pairCarriedOut d p n (adjustFrom (suc n) []) (pairDone p q))
-        split true d f = absurd (not-both refl f)
-        split false go f = absurd (not-both refl f)
+        split true d f = absurd (true≢false f)
+        split false go f = absurd (true≢false f)
         split false (refuse k) f = refl
 
 -- what a step holds, by its store and its answer

@@ -4,10 +4,10 @@ use native.Mathlib.Nat.{le-refl, le-of-eq}
 use native.Mathlib.Numerals.{add-one}
 use native.Mathlib.Omega.{arith}
 use native.Mathlib.Decide.{decLt}
-use mathlib.Core.Bool.{Bool, true, false, cond}
+use mathlib.Core.Bool.{Bool, true, false, cond, true≢false, false≢true}
 use mathlib.Core.List.{List, [], _∷_}
 use mathlib.Core.Path.{_≡_, refl, sym, _∙_, ap, ap₂, subst}
-use lib.Dec.{T, ltb, eqb}
+use lib.Dec.{ltb, eqb}
 use lib.ListN.{length, getD, drop, replicate, drop-of-length-le}
 use lib.Seq.{drop-cons}
 use borrow.Author.Tests.{eq-eqb, eqb-true, eqb-false, lt-ltb, le-ltb, ltb-true, ltb-false}
@@ -33,9 +33,6 @@ noItem = record { index = record { 0 = 0 }; weight = 0 }
 
 abbrev pub itemAt : List Item → ℕ → Item
 itemAt xs i = getD xs i noItem
-
-not-both : {b : Bool} → b ≡ true → b ≡ false → ⊥
-not-both e f = subst T (sym e ∙ f) tt
 
 -- how many turns are left of n items: those of the second pass stand after those of the first
 abbrev pub turnsLeft : ℕ → Bool → ℕ → ℕ
@@ -134,7 +131,7 @@ module _ {E S : Type 0} (add : ℕ → List S → List E → List S) (zeroSum : 
           formed = λ h. e;
           fits = λ h. l;
           judged = λ h g. refl;
-          sure = λ h g. absurd (not-both g refl);
+          sure = λ h g. absurd (false≢true g);
         }
 
   pub begins : Standing (begun zeroSum (wellFormed p) (eqb (length out₀) (p .header .dimensions)) n out₀)
@@ -181,7 +178,7 @@ module _ {E S : Type 0} (add : ℕ → List S → List E → List S) (zeroSum : 
                   ∙ sym (ap (λ (b : Bool). ahead b i out) f) ∙ now-ahead);
               formed = λ k. at .formed h;
               fits = λ k. at .fits h;
-              judged = λ k g. absurd (not-both refl g);
+              judged = λ k g. absurd (true≢false g);
               sure = λ k g. both-go (itemsDecided p (this ∷ [])) _ (sym decided-here ∙ at .sure h f) .1;
             }
 
@@ -201,7 +198,7 @@ module _ {E S : Type 0} (add : ℕ → List S → List E → List S) (zeroSum : 
                 formed = λ j. at .formed h;
                 fits = λ j. at .fits h;
                 judged = λ j b. sym same ∙ at .judged h f;
-                sure = λ j b. absurd (not-both b refl);
+                sure = λ j b. absurd (false≢true b);
               }
 
           none-left : n ≤ i + 1 → itemsDecided p (rest (i + 1)) ≡ go
@@ -216,7 +213,7 @@ module _ {E S : Type 0} (add : ℕ → List S → List E → List S) (zeroSum : 
                     ∙ sym (ap (λ (x : Decided). writes x out (summed add p (weightingsOf xs) zeros)) (ap₂ andThen g (none-left k))) ∙ judging);
                 formed = λ j. at .formed h;
                 fits = λ j. at .fits h;
-                judged = λ j b. absurd (not-both refl b);
+                judged = λ j b. absurd (true≢false b);
                 sure = λ j b. sym (at .judged h f) ∙ decided-here ∙ ap₂ andThen (sym e ∙ g) (none-left k);
               }
 
