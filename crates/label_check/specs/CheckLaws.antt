@@ -71,40 +71,16 @@ summed-most n slots counts sums h g f e s l =
           | no d ↦ rw (ne-eqb (getD slots i 0) s d) (omega arith)
         ]
 
--- a label's pass, by its count and its mark
-module _ (classes : List ℕ) (c : ℕ) (labels slots counts attributes marks : List ℕ) (i : ℕ) where
-  pub passes-dead : getD counts i 0 ≡ 0 → eqb (getD marks i 0) 1 ≡ labelPasses classes c labels slots counts attributes marks i
-  unfolding labelPasses
-  passes-dead e = rw e (sym (and-true (eqb (getD marks i 0) 1)))
-
-  pub passes-live : (getD counts i 0 ≡ 0 → ⊥) → getD marks i 0 ≡ 0 → labelStands classes c labels slots attributes i ≡ labelPasses classes c labels slots counts attributes marks i
-  unfolding labelPasses
-  passes-live d e = rw (ne-eqb (getD counts i 0) 0 d, lt-ltb 0 (getD counts i 0) (positive (getD counts i 0) d), e)
-
-  pub passes-not : (getD counts i 0 ≡ 0 → ⊥) → (getD marks i 0 ≡ 0 → ⊥) → false ≡ labelPasses classes c labels slots counts attributes marks i
-  unfolding labelPasses
-  passes-not d e = rw (ne-eqb (getD counts i 0) 0 d, ne-eqb (getD marks i 0) 0 e)
-
--- a count added to the sum of a slot, within the sums and past them
+-- a count added to the sum of a slot
 pub share-added : (sums : List ℕ) (slot count : ℕ) → slot < length sums → (s : ℕ) → s < length sums → getD (set sums slot (getD sums slot 0 + count)) s 0 ≡ getD sums s 0 + cond (eqb slot s) count 0
 share-added sums slot count h s l =
     stored (λ x. x ≡ getD sums s 0 + cond (eqb slot s) count 0) sums slot (getD sums slot 0 + count) s h
     (λ e. rw (eq-eqb slot s (sym e), e)) (λ d. rw (ne-eqb slot s (λ e. d (sym e))) (omega arith))
 
-pub share-past : (sums : List ℕ) (slot count : ℕ) → length sums ≤ slot → (s : ℕ) → s < length sums → getD sums s 0 ≡ getD sums s 0 + cond (eqb slot s) count 0
-share-past sums slot count h s l = rw (ne-eqb slot s (λ e. omega arith)) (omega arith)
-
--- the ways out of the pass over the labels
-module _ (classes : List ℕ) (c : ℕ) (labels slots counts attributes marks sums : List ℕ) (i : ℕ) where
-  abbrev passes : ℕ → Bool
-  passes k = labelPasses classes c labels slots counts attributes marks k
-
-  pub swept-no : i < c → passes i ≡ false → LabelsSwept classes c labels slots counts attributes marks sums false
-  swept-no l e =
-      record {
-        is = sym (every-stops c passes i l e);
-        summed = λ t. absurd (let q : _≡_ {A = ℕ} 0 1 = cc in omega arith);
-      }
-
-  pub swept-all : i ≡ c → everyBelow i passes ≡ true → Summed i slots counts sums → LabelsSwept classes c labels slots counts attributes marks sums true
-  swept-all e p s = record { is = sym (rw e at p); summed = λ t. rw e at s }
+-- a count of 0 adds nothing
+pub share-none : (sums : List ℕ) (slot count s : ℕ) → count ≡ 0 → getD sums s 0 ≡ getD sums s 0 + cond (eqb slot s) count 0
+share-none sums slot count s e = rw e (omega (arith, either (eqb slot s)))
+  where
+    either : (b : Bool) → _≡_ {A = ℕ} (cond b 0 0) 0
+    either true = refl
+    either false = refl

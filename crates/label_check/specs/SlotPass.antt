@@ -72,7 +72,7 @@ seen-none zero held counts k = refl
 seen-none (suc n) held counts zero = refl
 seen-none (suc n) held counts (suc k) = seen-none n held counts k
 
-live-is : (n : ℕ) → ltb 0 n ≡ not (eqb n 0)
+pub live-is : (n : ℕ) → ltb 0 n ≡ not (eqb n 0)
 live-is n =
     elim (ℕ-discrete n 0) [
       | yes e ↦ rw e

@@ -13,6 +13,7 @@ use Rattle.interval_store_manager.specs.Intervals.{isFree, freeNumber}
 use Rattle.interval_store_manager.specs.Marks.{Marks}
 use Rattle.interval_store_manager.specs.WellFormed as manager
 use Rattle.labels.specs.Counted.{countedWell}
+use Rattle.label_check.specs.LabelPass.{every-same}
 use Rattle.store_definitions.specs.declared.Store.{Store}
 use Rattle.store_definitions.specs.Parts.{baseOf, tableLength}
 use Rattle.store_definitions.specs.WellFormed.{placesDistinct, placesEnd}
@@ -20,12 +21,6 @@ use Rattle.store_laws.specs.BoundsLaws.{in-bounds, base-some}
 use Rattle.store_check.specs.Entries.{placeLimit, entryWell, entriesWell, countsLive, PlacesBelow}
 use Rattle.store_check.specs.PointsTest.{pointsTest, PointsReady}
 use Rattle.store_check.proofs.EntryLaws.{ends-below}
-
--- tests that agree below n
-every-same : (n : ℕ) (p q : ℕ → Bool) → ((i : ℕ) → i < n → p i ≡ q i) → everyBelow n p ≡ everyBelow n q
-unfolding everyBelow
-every-same zero p q h = refl
-every-same (suc n) p q h = ap₂ (λ (a b : Bool). a && b) (every-same n p q (λ i l. h i (omega arith))) (h n (omega arith))
 
 mark-is : (b : Bool) → eqb (one b) 1 ≡ b
 mark-is true = refl
