@@ -2,8 +2,8 @@
 use mathlib.Core.Bool.{Bool, true, false, cond}
 use mathlib.Core.List.{List}
 use mathlib.Core.Path.{_≡_, refl, sym, ap, subst, _∙_}
-use Prim.Native.Nat.{ℕ, suc, _+_, _*_, _-_, _/_, _≤_, _<_, _∣_}
-use native.Mathlib.Nat.{le-refl, le-of-lt, add-zero, dvd-add, dvd-sub, dvd-mul-left}
+use Prim.Native.Nat.{ℕ, suc, _+_, _*_, _-_, _/_, _≤_, _<_}
+use native.Mathlib.Nat.{le-of-lt}
 use native.Mathlib.Numerals.{add-one}
 use native.Mathlib.Omega.{arith}
 use borrow.Author.Tests.{leb-true, leb-false}
@@ -12,13 +12,13 @@ use lib.ListN.{length, getD}
 use Rattle.placement.specs.Alignment.{zerosBefore}
 use Rattle.placement.specs.Compaction.{compacted, liveBelow}
 use Rattle.placement.specs.Places.{Live, WellPlaced}
-use Rattle.placement.specs.ProgressLaws.{Sound, starts-ready}
+use Rattle.placement.specs.ProgressLaws.{Sound}
 use Rattle.placement.specs.Scan.{well-sound}
 use Rattle.placement.specs.Scanned.{ScanState, scanned, shown, advanced, Bounded, scanned-first, scanned-dead, scanned-bounded, scanned-last, scanned-joins, scanned-starts, met-inside, joins-within, starts-behind}
 use Rattle.placement.specs.Steps.{steps}
 use Rattle.placement_rows.specs.Compactable.{layout}
 use Rattle.placement_rows.specs.IndexTable.{found-none, found-live, found-at}
-use Rattle.placement_rows.specs.OnePass.{scan, runOf, met, Copyable, Shifted, Scannable}
+use Rattle.placement_rows.specs.OnePass.{scan, runOf, met, Copyable, Scannable}
 use Rattle.placement_rows.specs.declared.one_pass.Progress.{Progress}
 use Rattle.placement_rows.specs.declared.one_pass.Run.{Run}
 
@@ -30,7 +30,7 @@ module _ (dims base : ℕ) (rotation : Bool) (elements location table : List ℕ
   well = pre .compactable .well
 
   -- before the first turn, and after the last
-  pub scan-first : scan elements location (record { free = 0; read = 0; shift = 0 }) ≡ at 0
+  pub scan-first : scan elements location (record { free = 0; read = 0 }) ≡ at 0
   scan-first = sym (scanned-first 0 dims base rotation elements location)
 
   pub scan-last : (e l : List ℕ) (p : Progress) → scan e l p ≡ at (free / base) → layout e l (p .free) ≡ compacted 0 dims base rotation elements location free
@@ -70,27 +70,12 @@ module _ (dims base : ℕ) (rotation : Bool) (elements location table : List ℕ
         abbrev started : Run
         started = record { zeros = zerosBefore rotation dims (at q .free) (q * base); from = q * base }
 
-        sound : Sound dims base rotation elements free (liveBelow location q) q (steps 0 dims base rotation elements (liveBelow location q))
-        sound = well-sound 0 dims base rotation elements location free well q (le-of-lt inside)
-
-        ends : q * base + dims ≤ free
-        ends = met-inside 0 dims base rotation elements location free well q i live there
-
         -- the words that are read on from reach back to the point's start
         enough : q * base ≤ at q .read → dims ≤ at q .free + (q * base + dims - at q .read)
         unfolding scanned shown
-        enough k = omega (arith, sound .last-next, sound .last-free)
-
-        -- words are moved by whole places
-        joins-whole : base ∣ at q .read - (at q .free + 0)
-        unfolding scanned shown
-        joins-whole = rw add-zero (dvd-sub base (sound .whole-read) (sound .whole-free))
-
-        starts-whole : at q .read < q * base → base ∣ q * base - (at q .free + zerosBefore rotation dims (at q .free) (q * base))
-        unfolding scanned shown
-        starts-whole k =
-            let ready = starts-ready 0 dims base rotation elements free (well .shaped) (omega (arith, well .small)) (well .inside) (liveBelow location q) q (steps 0 dims base rotation elements (liveBelow location q)) sound q (le-refl q) ends k in
-            dvd-sub base (dvd-mul-left base q) (dvd-add base (sound .whole-free) (ready .whole-zeros))
+        enough k =
+            let s : Sound dims base rotation elements free (liveBelow location q) q (steps 0 dims base rotation elements (liveBelow location q)) = well-sound 0 dims base rotation elements location free well q (le-of-lt inside) in
+            omega (arith, s .last-next, s .last-free)
 
         copyable : Copyable dims base (runOf dims base rotation q (at q .free) (at q .read)) (q * base + dims) i (at q .free) (length (at q .elements)) (length (at q .location))
         unfolding runOf
@@ -99,9 +84,12 @@ module _ (dims base : ℕ) (rotation : Bool) (elements location table : List ℕ
             bounded : Bounded 0 dims base rotation elements location free well q
             bounded = scanned-bounded 0 dims base rotation elements location free well q (le-of-lt inside)
 
-            of : (run : Run) → at q .free + run .zeros ≤ run .from → run .from ≤ q * base + dims → dims ≤ at q .free + run .zeros + (q * base + dims - run .from) → base ∣ run .from - (at q .free + run .zeros)
+            ends : q * base + dims ≤ free
+            ends = met-inside 0 dims base rotation elements location free well q i live there
+
+            of : (run : Run) → at q .free + run .zeros ≤ run .from → run .from ≤ q * base + dims → dims ≤ at q .free + run .zeros + (q * base + dims - run .from)
                 → Copyable dims base run (q * base + dims) i (at q .free) (length (at q .elements)) (length (at q .location))
-            of run a b c d =
+            of run a b c =
                 record {
                   some-base = well .shaped .some-base;
                   behind = a;
@@ -109,7 +97,6 @@ module _ (dims base : ℕ) (rotation : Bool) (elements location table : List ℕ
                   ends = omega (arith, ends, well .inside, bounded .elements-kept);
                   small = omega (arith, ends, well .small);
                   enough = c;
-                  whole = d;
                   listed = omega (arith, live .listed, bounded .indices-kept);
                 }
 
@@ -118,14 +105,12 @@ module _ (dims base : ℕ) (rotation : Bool) (elements location table : List ℕ
                 of joined (omega (arith, bounded .behind))
                 (omega (arith, joins-within 0 dims base rotation elements location free well q i live there))
                 (omega (arith, enough (leb-true (q * base) (at q .read) k)))
-                joins-whole
             go false k =
                 of started (starts-behind 0 dims base rotation elements location free well q i live there (leb-false (q * base) (at q .read) k)) (omega arith) (omega arith)
-                (starts-whole (leb-false (q * base) (at q .read) k))
 
-        pub can-take : Shifted base p → (0 < dims) × Copyable dims base (runOf dims base rotation q (p .free) (p .read)) (q * base + dims) i (p .free) (length e) (length l) × Shifted base p
-        can-take shifted =
-            (well .shaped .some, subst (λ (t : ScanState ℕ). Copyable dims base (runOf dims base rotation q (t .free) (t .read)) (q * base + dims) i (t .free) (length (t .elements)) (length (t .location))) (sym h) copyable, shifted)
+        pub can-take : (0 < dims) × Copyable dims base (runOf dims base rotation q (p .free) (p .read)) (q * base + dims) i (p .free) (length e) (length l)
+        can-take =
+            (well .shaped .some, subst (λ (t : ScanState ℕ). Copyable dims base (runOf dims base rotation q (t .free) (t .read)) (q * base + dims) i (t .free) (length (t .elements)) (length (t .location))) (sym h) copyable)
 
         met-next : met dims base rotation q i (at q) ≡ at (suc q)
         unfolding met runOf

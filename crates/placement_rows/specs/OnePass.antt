@@ -2,7 +2,7 @@
 use mathlib.Core.Bool.{Bool, cond}
 use mathlib.Core.List.{List}
 use mathlib.Core.Path.{_≡_}
-use Prim.Native.Nat.{ℕ, _+_, _*_, _-_, _/_, _≤_, _<_, _∣_}
+use Prim.Native.Nat.{ℕ, _+_, _*_, _-_, _/_, _≤_, _<_}
 use lib.Dec.{leb}
 use lib.ListN.{length, replicate}
 use Rattle.placement.specs.Alignment.{zerosBefore}
@@ -30,12 +30,7 @@ pub record Copyable (dims base : ℕ) (run : Run) (end i free words indices : �
   pub ends : end ≤ words
   pub small : end < 65536
   pub enough : dims ≤ free + run .zeros + (end - run .from)
-  pub whole : base ∣ run .from - (free + run .zeros)
   pub listed : i < indices
-
--- what was written ends by so many places before the end of what was read
-abbrev pub Shifted : ℕ → Progress → Type 0
-Shifted base p = p .free + p .shift * base ≡ p .read
 
 -- the point of index i, at its place, is met
 unfoldable pub met : (dims base : ℕ) → Bool → (place i : ℕ) → ScanState ℕ → ScanState ℕ

@@ -5,13 +5,13 @@ use super::words::copy_down;
 use super::words::fill;
 use terms::FloatBits;
 ghost use mathlib.Core.Path.{_≡_};
-ghost use Prim.Native.Nat.{_+_, _*_, _^_, _<_, _∣_};
+ghost use Prim.Native.Nat.{_+_, _*_, _^_, _<_};
 ghost use lib.ListN.{length};
 ghost use Rattle.placement.specs.Alignment.{zerosBefore};
 ghost use Rattle.placement.specs.Compaction.{compacted};
 ghost use Rattle.placement.specs.Scanned.{advanced};
 ghost use Rattle.placement_rows.specs.Compactable.{layout};
-ghost use Rattle.placement_rows.specs.OnePass.{runOf, Copyable, Shifted, Scannable, met, scan};
+ghost use Rattle.placement_rows.specs.OnePass.{runOf, Copyable, Scannable, met, scan};
 
 // How points lie in the store.
 pub struct Shape {
@@ -20,11 +20,10 @@ pub struct Shape {
     pub rotation: bool,
 }
 
-// The write position, the end of what was read, and by how many places the last point was moved down.
+// The write position, and the end of what was read.
 pub struct Progress {
     pub free: usize,
     pub read: usize,
-    pub shift: usize,
 }
 
 // What is written for a point: zeros, and the words from `from` up to its end.
@@ -62,44 +61,26 @@ fn next_run(shape: Shape, place: usize, done: Progress) -> Run
     }
 }
 
-// By how many places a point is moved whose words are moved by `distance`. The points of a block are all moved alike: there is a
-// division only where the distance is a new one.
-fn shift_by(base: usize, distance: usize, done: Progress) -> usize
-    requires { ⌜ (0 < base) × (base ∣ distance) × Shifted base done ⌝ }
-    ensures { λ r. ⌜ r * base ≡ distance ⌝ }
-{
-    if distance == done.read - done.free {
-        return done.shift;
-    }
-    distance / base
-}
-
 // The point ends where writing does.
 fn copy_run(
     store: &mut [FloatBits],
     location: &mut [u16],
     shape: Shape,
     run: Run,
-    place: usize,
+    end: usize,
     index: usize,
     done: Progress,
 ) -> Progress
-    requires { ⌜ Copyable (shape .dimensions) (shape .base) run (place * shape .base + shape .dimensions) index (done .free) (length (now store)) (length (now location)) × Shifted (shape .base) done ⌝ }
-    ensures state { λ r. ⌜ scan (now (store .exit)) (now (location .exit)) r ≡ advanced 0 (shape .dimensions) (shape .base) (run .zeros) (run .from) (place * shape .base + shape .dimensions) index (scan (now (store .entry)) (now (location .entry)) done) ⌝ }
-    ensures shifted { λ r. ⌜ Shifted (shape .base) r ⌝ }
+    requires { ⌜ Copyable (shape .dimensions) (shape .base) run end index (done .free) (length (now store)) (length (now location)) ⌝ }
+    ensures { λ r. ⌜ scan (now (store .exit)) (now (location .exit)) r ≡ advanced 0 (shape .dimensions) (shape .base) (run .zeros) (run .from) end index (scan (now (store .entry)) (now (location .entry)) done) ⌝ }
 {
     let from = run.from;
     let at = done.free + run.zeros;
-    let end = place * shape.base + shape.dimensions;
-    let shift = shift_by(shape.base, from - at, done);
     fill(store, done.free, at, 0);
     copy_down(store, at, from, end - from);
-    location[index] = (place - shift) as u16;
-    Progress {
-        free: at + (end - from),
-        read: end,
-        shift,
-    }
+    let free = at + (end - from);
+    location[index] = ((free - shape.dimensions) / shape.base) as u16;
+    Progress { free, read: end }
 }
 
 fn take_point(
@@ -110,12 +91,12 @@ fn take_point(
     index: usize,
     done: Progress,
 ) -> Progress
-    requires { ⌜ (0 < shape .dimensions) × Copyable (shape .dimensions) (shape .base) (runOf (shape .dimensions) (shape .base) (shape .rotation) place (done .free) (done .read)) (place * shape .base + shape .dimensions) index (done .free) (length (now store)) (length (now location)) × Shifted (shape .base) done ⌝ }
-    ensures state { λ r. ⌜ scan (now (store .exit)) (now (location .exit)) r ≡ met (shape .dimensions) (shape .base) (shape .rotation) place index (scan (now (store .entry)) (now (location .entry)) done) ⌝ }
-    ensures shifted { λ r. ⌜ Shifted (shape .base) r ⌝ }
+    requires { ⌜ (0 < shape .dimensions) × Copyable (shape .dimensions) (shape .base) (runOf (shape .dimensions) (shape .base) (shape .rotation) place (done .free) (done .read)) (place * shape .base + shape .dimensions) index (done .free) (length (now store)) (length (now location)) ⌝ }
+    ensures { λ r. ⌜ scan (now (store .exit)) (now (location .exit)) r ≡ met (shape .dimensions) (shape .base) (shape .rotation) place index (scan (now (store .entry)) (now (location .entry)) done) ⌝ }
 {
     let run = next_run(shape, place, done);
-    copy_run(store, location, shape, run, place, index, done)
+    let end = place * shape.base + shape.dimensions;
+    copy_run(store, location, shape, run, end, index, done)
 }
 
 // Answers the new free start. `index_at` is the table from place to index.
@@ -130,11 +111,7 @@ pub fn scan_places(
     ensures { λ r. ⌜ layout (now (store .exit)) (now (location .exit)) r ≡ compacted 0 (shape .dimensions) (shape .base) (shape .rotation) (now (store .entry)) (now (location .entry)) «start_free_region» ⌝ }
 {
     let places = start_free_region / shape.base;
-    let mut done = Progress {
-        free: 0,
-        read: 0,
-        shift: 0,
-    };
+    let mut done = Progress { free: 0, read: 0 };
     let mut place = 0;
     while place < places {
         let index = index_at[place];

@@ -1,9 +1,9 @@
 -- The loop's invariant: what was scanned is what the definition leaves of the places before `place`.
 use Prim.Native.Nat.{_-_, _/_, _≤_}
 use mathlib.Core.Logic.{⊎-elim}
-use mathlib.Core.Path.{_≡_, sym, ap, subst, _∙_}
+use mathlib.Core.Path.{_≡_, ap, _∙_}
 use Rattle.placement.specs.Scanned.{scanned}
-use Rattle.placement_rows.specs.OnePass.{scan, Shifted}
+use Rattle.placement_rows.specs.OnePass.{scan}
 use Rattle.placement_rows.proofs.OneRun.{scan-same}
 use Rattle.placement_rows.proofs.Scanning.{scan-first, scan-last, elements-kept, indices-kept, passes, can-take, takes}
 use borrow.Author.Needs.{needs}
@@ -12,7 +12,7 @@ use Rattle.placement_rows.proofs.one_pass.scan_places.Statement.{statem
 use Rattle.placement_rows.proofs.one_pass.scan_places.Tie as tie
 
 abbrev Inv-loop : tie.InvT-loop
-Inv-loop store₀ location₀ index-at shape start-free-region places done₀ place₀ store location done place = (place ≤ places) × (scan store location done ≡ scanned 0 (shape .dimensions) (shape .base) (shape .rotation) store₀ location₀ place) × Shifted (shape .base) done
+Inv-loop store₀ location₀ index-at shape start-free-region places done₀ place₀ store location done place = (place ≤ places) × (scan store location done ≡ scanned 0 (shape .dimensions) (shape .base) (shape .rotation) store₀ location₀ place)
 
 abbrev μ-loop : tie.MeasureT-loop
 μ-loop store₀ location₀ index-at shape start-free-region places done₀ place₀ store location done place = places - place
@@ -24,7 +24,7 @@ loop-holds : tie.Need-loop-holds Inv-loop μ-loop
 loop-holds c =
     let start = c .before .before .before .before in
     let a = start .args in
-    (search needs, scan-first (a .shape .dimensions) (a .shape .base) (a .shape .rotation) (a .store .now) (a .location .now) (a .index-at .now) (a .start-free-region) (start .pre), omega arith)
+    (search needs, scan-first (a .shape .dimensions) (a .shape .base) (a .shape .rotation) (a .store .now) (a .location .now) (a .index-at .now) (a .start-free-region) (start .pre))
 
 mul-index : tie.Need-mul-index Inv-loop μ-loop
 mul-index c = omega (arith, c .before .before .before .before .before .before .pre .reaches, c .before .before .before .before .before .before .good)
@@ -41,7 +41,7 @@ take-point-requires c κs =
     let start = c .before .before .before .before .before .before .before .before .before .before in
     let a = start .args in
     let inv = at .loop .inv in
-    can-take (a .shape .dimensions) (a .shape .base) (a .shape .rotation) (a .store .now) (a .location .now) (a .index-at .now) (a .start-free-region) (start .pre) (at .loop .place) (at .loop .store) (at .loop .location) (at .loop .done) (inv .1) (omega arith) (c .before .before .if1 .taken) (inv .2)
+    can-take (a .shape .dimensions) (a .shape .base) (a .shape .rotation) (a .store .now) (a .location .now) (a .index-at .now) (a .start-free-region) (start .pre) (at .loop .place) (at .loop .store) (at .loop .location) (at .loop .done) (inv .1) (omega arith) (c .before .before .if1 .taken)
 
 add-place : tie.Need-add-place Inv-loop μ-loop
 add-place c = search needs
@@ -57,8 +57,8 @@ loop-again c =
     let inv = at .loop .inv in
     let inside = c .before .before .loop-test .taken in
     ⊎-elim
-    (λ w. (search needs, scan-same (w .8) (w .9) (w .10) ∙ takes (a .shape .dimensions) (a .shape .base) (a .shape .rotation) (a .store .now) (a .location .now) (a .index-at .now) (a .start-free-region) (start .pre) (at .loop .place) (at .loop .store) (at .loop .location) (at .loop .done) (inv .1) inside (w .0 .taken) (w .3 .last .0) (w .3 .last .1 .0) (w .3 .result) (w .3 .ensures .0), subst (Shifted (a .shape .base)) (sym (w .10)) (w .3 .ensures .1)))
-    (λ w. (search needs, scan-same (w .1) (w .2) (w .3) ∙ passes (a .shape .dimensions) (a .shape .base) (a .shape .rotation) (a .store .now) (a .location .now) (a .index-at .now) (a .start-free-region) (start .pre) (at .loop .place) (at .loop .store) (at .loop .location) (at .loop .done) (inv .1) inside (w .0 .left), subst (Shifted (a .shape .base)) (sym (w .3)) (inv .2)))
+    (λ w. (search needs, scan-same (w .8) (w .9) (w .10) ∙ takes (a .shape .dimensions) (a .shape .base) (a .shape .rotation) (a .store .now) (a .location .now) (a .index-at .now) (a .start-free-region) (start .pre) (at .loop .place) (at .loop .store) (at .loop .location) (at .loop .done) (inv .1) inside (w .0 .taken) (w .3 .last .0) (w .3 .last .1 .0) (w .3 .result) (w .3 .ensures)))
+    (λ w. (search needs, scan-same (w .1) (w .2) (w .3) ∙ passes (a .shape .dimensions) (a .shape .base) (a .shape .rotation) (a .store .now) (a .location .now) (a .index-at .now) (a .start-free-region) (start .pre) (at .loop .place) (at .loop .store) (at .loop .location) (at .loop .done) (inv .1) inside (w .0 .left)))
     (c .if1 .came)
 
 same-length : tie.Need-same-length Inv-loop μ-loop

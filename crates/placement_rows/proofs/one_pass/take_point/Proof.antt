@@ -12,11 +12,16 @@ use Rattle.placement_rows.proofs.one_pass.take_point.Tie as tie
 next-run-requires : tie.Need-next-run-requires
 next-run-requires c κs = search needs
 
+mul-end : tie.Need-mul-end
+mul-end c = search needs
+
+add-end : tie.Need-add-end
+add-end c = search needs
+
 copy-run-requires : tie.Need-copy-run-requires
 copy-run-requires c κs =
-    let start = c .before .before .before .before .before in
-    let a = start .args in
-    (subst (λ (run : Run). Copyable (a .shape .dimensions) (a .shape .base) run (a .place * a .shape .base + a .shape .dimensions) (a .index) (a .done .free) (length (a .store .now)) (length (a .location .now))) (sym (c .before .before .next-run .ensures)) (start .pre .1), start .pre .2)
+    let a = c .before .before .before .before .before .before .before .args in
+    subst (λ (run : Run). Copyable (a .shape .dimensions) (a .shape .base) run (a .place * a .shape .base + a .shape .dimensions) (a .index) (a .done .free) (length (a .store .now)) (length (a .location .now))) (sym (c .before .before .before .before .next-run .ensures)) (c .before .before .before .before .before .before .before .pre .1)
 
 same-length : tie.Need-same-length
 same-length c = search needs
@@ -27,15 +32,16 @@ same-length-2 c = search needs
 returns : tie.Need-returns
 unfolding met
 returns c =
-    let a = c .before .before .before .before .before .before .before .before .before .before .args in
-    let copied = c .before .before .before .before .copy-run .ensures in
-    (copied .0 ∙ ap (λ (run : Run). advanced 0 (a .shape .dimensions) (a .shape .base) (run .zeros) (run .from) (a .place * a .shape .base + a .shape .dimensions) (a .index) (scan (a .store .now) (a .location .now) (a .done))) (c .before .before .before .before .before .before .before .next-run .ensures), copied .1)
+    let a = c .before .before .before .before .before .before .before .before .before .before .before .before .args in
+    c .before .before .before .before .copy-run .ensures ∙ ap (λ (run : Run). advanced 0 (a .shape .dimensions) (a .shape .base) (run .zeros) (run .from) (a .place * a .shape .base + a .shape .dimensions) (a .index) (scan (a .store .now) (a .location .now) (a .done))) (c .before .before .before .before .before .before .before .before .before .next-run .ensures)
 
 pub take-point-spec : {M : Type 1} → statement M
 take-point-spec =
     tie.close
     (tie.spec
     next-run-requires
+    mul-end
+    add-end
     copy-run-requires
     same-length
     same-length-2
