@@ -8,9 +8,9 @@ use mathlib.Core.Path.{_≡_, refl, sym, _∙_}
 use lib.ListN.{getD}
 use lib.Dec.{leb, eqb}
 use borrow.Author.Tests.{eq-eqb, ne-eqb, leb-true}
-use Rattle.terms.specs.Below.{one, one-le, fails, sumBelow, sum-same, countBelow, every-at}
+use Rattle.terms.specs.Below.{one-le, fails, sumBelow, every-at}
 use Rattle.interval_store_manager.specs.declared.IntervalStoreManager.{IntervalStoreManager}
-use Rattle.interval_store_manager.specs.Intervals.{inside, holders, isFree, freeNumber, inBounds, noneShared}
+use Rattle.interval_store_manager.specs.Intervals.{inside, holders, freeNumber, inBounds, noneShared}
 use Rattle.interval_store_manager.specs.WellFormed.{capacityAllowed, lentEnough, wellFormed}
 use Rattle.interval_store_manager.specs.StackLaws.{sizes, free-number, none-shared}
 use Rattle.interval_store_manager.specs.Marks.{Swept, Marked}

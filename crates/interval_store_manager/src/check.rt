@@ -4,7 +4,7 @@ ghost use mathlib.Core.Path.{_≡_};
 ghost use Prim.Native.Nat.{ℕ, _≤_, _<_};
 ghost use lib.ListN.{length, getD};
 ghost use Rattle.terms.specs.Below.{sumBelow};
-ghost use Rattle.interval_store_manager.specs.WellFormed.{capacityAllowed, lentEnough, wellFormed};
+ghost use Rattle.interval_store_manager.specs.WellFormed.{capacityAllowed, lentEnough};
 ghost use Rattle.interval_store_manager.specs.Marks.{filled, Unmarked, Swept, Marked, WellFormed};
 use crate::IntervalStoreManager;
 

@@ -1,17 +1,17 @@
--- Laws of the check's two passes: the sums that the labels leave, and the classes that the slots leave seen.
-use Prim.Native.Nat.{ℕ, suc, _+_, _≤_, _<_, _^_}
+-- What the check's two passes rely on and leave, and laws of the sums of the slots' counts.
+use Prim.Native.Nat.{ℕ, _+_, _≤_, _<_, _^_}
 use native.Mathlib.Omega.{arith}
 use native.Mathlib.Numerals.{add-one}
-use native.Mathlib.Decide.{decLt, ℕ-discrete}
+use native.Mathlib.Decide.{ℕ-discrete}
 use mathlib.Core.List.{List}
-use mathlib.Core.Bool.{Bool, true, false, cond, _&&_, _||_, and-true, or-true}
+use mathlib.Core.Bool.{Bool, true, false, cond}
 use mathlib.Core.Path.{_≡_, refl, sym, _∙_, ap}
 use lib.ListN.{length, getD, set}
-use lib.Dec.{ltb, eqb}
-use borrow.Author.Tests.{eq-eqb, ne-eqb, lt-ltb, le-ltb, ltb-true, eqb-true}
-use Rattle.terms.specs.Below.{one, both, and-make, fails, positive, everyBelow, every-at, every-make, sumBelow}
+use lib.Dec.{eqb}
+use borrow.Author.Tests.{eq-eqb, ne-eqb}
+use Rattle.terms.specs.Below.{everyBelow, sumBelow}
 use Rattle.terms.specs.Sums.{sum-most}
-use Rattle.labels.specs.Labels.{slotSum, labelStands}
+use Rattle.labels.specs.Labels.{slotSum}
 use Rattle.terms.specs.Entries.{stored}
 use Rattle.labels.specs.SlotLaws.{share}
 use Rattle.label_check.specs.Checks.{labelPasses, Summed}
@@ -37,15 +37,6 @@ pub record SlotsLent (capacity free : ℕ) (attributes counts marks sums : List 
 pub record LabelsSwept (classes : List ℕ) (capacity : ℕ) (labels slots counts attributes marks sums : List ℕ) (ok : Bool) : Type 0 where
   pub is : ok ≡ everyBelow capacity (λ i. labelPasses classes capacity labels slots counts attributes marks i)
   pub summed : ok ≡ true → Summed capacity slots counts sums
-
--- a test of every number below n, one number more, and one that fails
-pub every-more : (n : ℕ) (p : ℕ → Bool) → everyBelow n p ≡ true → p n ≡ true → everyBelow (n + 1) p ≡ true
-unfolding everyBelow
-every-more n p e f = rw (add-one n) (and-make (everyBelow n p) (p n) e f)
-
-pub every-stops : (n : ℕ) (p : ℕ → Bool) (i : ℕ) → i < n → p i ≡ false → everyBelow n p ≡ false
-every-stops n p i l e =
-    fails (everyBelow n p) (λ t. let q : true ≡ false = sym (every-at n p t i l) ∙ e in let z : _≡_ {A = ℕ} 0 1 = cc in omega arith)
 
 -- the sums below 0, and with one label more
 pub summed-none : (slots counts sums : List ℕ) → ((s : ℕ) → getD sums s 0 ≡ 0) → Summed 0 slots counts sums

@@ -1,7 +1,7 @@
 // The points' half: the stack of free indices, the counts and the places.
 ghost use mathlib.Core.Path.{_≡_};
-ghost use Prim.Native.Nat.{ℕ, _≤_, _<_};
-ghost use lib.ListN.{length, getD};
+ghost use Prim.Native.Nat.{_≤_, _<_};
+ghost use lib.ListN.{length};
 ghost use Rattle.store_definitions.specs.WellFormed.{placesDistinct};
 ghost use Rattle.store_check.specs.Entries.{placeLimit, entryWell, entriesWell, placeMet, placeMarked, NoneMarked, PlacesBelow};
 

@@ -1,6 +1,5 @@
 -- The marks are a local array of zeros.
 use borrow.Author.Needs.{needs}
-use native.Mathlib.Omega.{arith}
 use Rattle.interval_store_manager.specs.MarkLaws.{unmarked}
 use Rattle.interval_store_manager.proofs.check.well_formed.Statement.{statement}
 use Rattle.interval_store_manager.proofs.check.well_formed.Tie as tie

@@ -1,5 +1,4 @@
 -- A label passes where it is bounded and its class is held.
-use borrow.Author.Needs.{needs}
 use mathlib.Core.Path.{sym, _∙_}
 use Rattle.label_check.specs.LabelPass.{share-ready, swept-bounded, swept-not}
 use Rattle.label_check.proofs.label_pass.labels_pass.Statement.{statement}

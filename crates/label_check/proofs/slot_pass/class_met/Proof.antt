@@ -1,5 +1,4 @@
 -- Each return follows from the test that led to it.
-use native.Mathlib.Omega.{arith}
 use borrow.Author.Needs.{needs}
 use borrow.Author.Tests.{eq-eqb, ne-eqb}
 use Rattle.label_check.proofs.slot_pass.class_met.Statement.{statement}

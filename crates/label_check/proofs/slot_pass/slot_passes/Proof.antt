@@ -1,5 +1,5 @@
 -- The code is the test.
-use mathlib.Core.Bool.{Bool, _&&_}
+use mathlib.Core.Bool.{_&&_}
 use mathlib.Core.Path.{ap}
 use Prim.Native.Nat.{ℕ}
 use lib.Dec.{eqb}

@@ -3,7 +3,7 @@ use borrow.Author.Needs.{needs}
 use Prim.Native.Nat.{ℕ, _/_, _≤_}
 use native.Mathlib.Omega.{arith}
 use mathlib.Core.Bool.{Bool, _&&_, false≢true}
-use mathlib.Core.Path.{_≡_, sym, _∙_, ap, subst⁻¹}
+use mathlib.Core.Path.{sym, _∙_, ap, subst⁻¹}
 use Rattle.interval_store_manager.specs.MarkLaws.{unmarked}
 use Rattle.interval_store_manager.specs.Sound.{sound}
 use Rattle.store_definitions.specs.WellFormed.{placesDistinct}
