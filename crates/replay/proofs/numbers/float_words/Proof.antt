@@ -1,0 +1,62 @@
+-- Safe, and it ends: the entries are gone through one after the other.
+use Prim.Native.Nat.{_-_}
+use borrow.Author.Needs.{needs}
+use Rattle.replay.proofs.numbers.float_words.Statement.{statement}
+use Rattle.replay.proofs.numbers.float_words.Tie as tie
+
+abbrev Inv-loop : tie.InvT-loop
+Inv-loop row out₀ i₀ out i = Unit {0}
+
+abbrev μ-loop : tie.MeasureT-loop
+μ-loop row out₀ i₀ out i = 64 - i
+
+loop-holds : tie.Need-loop-holds Inv-loop μ-loop
+loop-holds c = search needs
+
+mul-word-of-float : tie.Need-mul-word-of-float Inv-loop μ-loop
+mul-word-of-float c = search needs
+
+array-read-word-of-float : tie.Need-array-read-word-of-float Inv-loop μ-loop
+array-read-word-of-float c = search needs
+
+word-of-float-requires : tie.Need-word-of-float-requires Inv-loop μ-loop
+word-of-float-requires c κs = search needs
+
+cast-out : tie.Need-cast-out Inv-loop μ-loop
+cast-out c = search needs
+
+mul-out : tie.Need-mul-out Inv-loop μ-loop
+mul-out c = search needs
+
+array-write-out : tie.Need-array-write-out Inv-loop μ-loop
+array-write-out c = search needs
+
+add-i : tie.Need-add-i Inv-loop μ-loop
+add-i c = search needs
+
+loop-less : tie.Need-loop-less Inv-loop μ-loop
+loop-less c = search needs
+
+loop-again : tie.Need-loop-again Inv-loop μ-loop
+loop-again c = search needs
+
+returns : tie.Need-returns Inv-loop μ-loop
+returns c = search needs
+
+pub float-words-spec : {M : Type 1} → statement M
+float-words-spec =
+    tie.close
+    (tie.spec
+    Inv-loop
+    μ-loop
+    loop-holds
+    mul-word-of-float
+    array-read-word-of-float
+    word-of-float-requires
+    cast-out
+    mul-out
+    array-write-out
+    add-i
+    loop-less
+    loop-again
+    returns)
