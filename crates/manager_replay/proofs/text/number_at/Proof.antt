@@ -2,11 +2,11 @@
 use Prim.Native.Nat.{_-_}
 use mathlib.Core.Path.{_≡_, refl, _∙_}
 use lib.ListN.{length, getD, drop}
-use Rattle.numerals.specs.Numbers.{digits, numberAt, digits-end, digits-stop, digits-go, below-digits, above-digits, too-large, a-digit}
+use Rattle.manager_replay.specs.Numbers.{digits, numberAt, digits-end, digits-stop, digits-go, below-digits, above-digits, too-large, a-digit}
 use borrow.Author.Needs.{needs}
 use native.Mathlib.Omega.{arith}
-use Rattle.numerals.proofs.number_at.Statement.{statement}
-use Rattle.numerals.proofs.number_at.Tie as tie
+use Rattle.manager_replay.proofs.text.number_at.Statement.{statement}
+use Rattle.manager_replay.proofs.text.number_at.Tie as tie
 
 abbrev Inv-loop : tie.InvT-loop
 Inv-loop text at value₀ i₀ value i = digits (drop i text) value i ≡ numberAt text at

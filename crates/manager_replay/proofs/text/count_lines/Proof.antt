@@ -4,8 +4,8 @@ use mathlib.Core.Logic.{⊎-elim}
 use lib.ListN.{length}
 use borrow.Author.Needs.{needs}
 use native.Mathlib.Omega.{arith}
-use Rattle.numerals.proofs.count_lines.Statement.{statement}
-use Rattle.numerals.proofs.count_lines.Tie as tie
+use Rattle.manager_replay.proofs.text.count_lines.Statement.{statement}
+use Rattle.manager_replay.proofs.text.count_lines.Tie as tie
 
 abbrev Inv-loop : tie.InvT-loop
 Inv-loop text lines₀ i₀ lines i = lines ≤ i

@@ -8,7 +8,7 @@ use lib.ListN.{length, getD, drop, drop-of-length-le}
 use lib.Seq.{drop-cons}
 use lib.Dec.{leb}
 use borrow.Author.Tests.{le-leb, lt-leb}
-use Rattle.numerals.specs.declared.Numeral.{Numeral}
+use Rattle.manager_replay.specs.declared.text.Numeral.{Numeral}
 
 abbrev pub numeral : ℕ → ℕ → Numeral
 numeral value next = record { value = value; next = next }
