@@ -96,11 +96,8 @@ static inline const char *ps_refusal_text(uint64_t number) {
     (4 * (PS_FLOATS(capacity, dimensions) + (size_t)(dimensions)) + 8 * (size_t)(capacity) \
      + 18 * PS_LABEL_ENTRIES(capacity, labels))
 
-/* The stack that a call needs at most, in bytes: it follows the number of places, capacity x shingle size. */
-#define PS_STACK(capacity, shingle_size) \
-    ((size_t)(capacity) * (size_t)(shingle_size) <= 256 ? (size_t)PS_STACK_256 \
-     : (size_t)(capacity) * (size_t)(shingle_size) <= 1024 ? (size_t)PS_STACK_1024 \
-     : (size_t)(capacity) * (size_t)(shingle_size) <= 4096 ? (size_t)PS_STACK_4096 : (size_t)PS_STACK_16384)
+/* The stack that a call needs at most, in bytes, whatever the shape. Only add and compact take more than two thirds of it. */
+#define PS_STACK 40960
 
 /* ---- The library's functions, slice by slice ---- */
 
@@ -161,7 +158,7 @@ uint64_t ps_attribute_vec(const uint64_t *words, size_t words_len, PS_READ_,
 #undef PS_READ_
 
 /* The store's name, the port's source and commit and the version: PS_NAME_LENGTH characters, no end mark. */
-#define PS_NAME_LENGTH 0
+#define PS_NAME_LENGTH 56
 uint64_t ps_name(uint8_t *out, size_t out_len);
 
 /* ---- The interval manager by itself: a stack of free intervals over lent starts and ends ---- */

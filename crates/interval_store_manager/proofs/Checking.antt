@@ -1,5 +1,5 @@
 -- The well-formedness check: each of its ways out gives the answer that the definition gives.
-use Prim.Native.Nat.{ℕ}
+use Prim.Native.Nat.{ℕ, zero, suc, _≤_, _<_}
 use native.Mathlib.Omega.{arith}
 use native.Mathlib.Decide.{ℕ-discrete}
 use mathlib.Core.List.{List}
@@ -8,17 +8,25 @@ use mathlib.Core.Path.{_≡_, refl, sym, _∙_}
 use lib.ListN.{getD}
 use lib.Dec.{leb, eqb}
 use borrow.Author.Tests.{eq-eqb, ne-eqb, leb-true}
-use Rattle.terms.specs.Below.{one, fails, sumBelow, sum-same, countBelow, every-at}
+use Rattle.terms.specs.Below.{one, one-le, fails, sumBelow, sum-same, countBelow, every-at}
 use Rattle.interval_store_manager.specs.declared.IntervalStoreManager.{IntervalStoreManager}
-use Rattle.interval_store_manager.specs.Intervals.{holders, isFree, freeNumber, inBounds, noneShared}
+use Rattle.interval_store_manager.specs.Intervals.{inside, holders, isFree, freeNumber, inBounds, noneShared}
 use Rattle.interval_store_manager.specs.WellFormed.{capacityAllowed, lentEnough, wellFormed}
 use Rattle.interval_store_manager.specs.StackLaws.{sizes, free-number, none-shared}
-use Rattle.interval_store_manager.specs.Marks.{Marks, Swept, Marked}
+use Rattle.interval_store_manager.specs.Marks.{Swept, Marked}
+use Rattle.interval_store_manager.specs.MarkLaws.{marks-count}
 
--- the marks below the capacity are as many as the free indices
-marks-count : (c n : ℕ) (ss es marks : List ℕ) → Marks n ss es marks → sumBelow c (λ k. getD marks k 0) ≡ freeNumber c n ss es
-unfolding freeNumber countBelow
-marks-count c n ss es marks m = sum-same c (λ k. getD marks k 0) (λ k. one (isFree n ss es k)) (λ k l. m k)
+-- fewer than two intervals share no index, so their sizes count the marks
+pub few-marked : (c n : ℕ) (ss es marks : List ℕ) (total : ℕ) → Swept c n ss es marks true total → n < 2 → total ≡ sumBelow c (λ k. getD marks k 0)
+unfolding holders
+few-marked c n ss es marks total s h =
+    s .total-is refl
+    ∙ sym (marks-count c n ss es marks (s .marked refl) ∙ free-number c n ss es (λ i l. few n h i))
+  where
+    few : (n : ℕ) → n < 2 → (i : ℕ) → holders n ss es i ≤ 1
+    few zero h i = omega arith
+    few (suc zero) h i = omega (arith, one-le (inside (getD ss 0 0) (getD es 0 0) i))
+    few (suc (suc n)) h i = absurd (omega arith)
 
 shared-test : (c n : ℕ) (ss es : List ℕ) → eqb (freeNumber c n ss es) (sizes c n ss es) ≡ noneShared c n ss es
 unfolding noneShared

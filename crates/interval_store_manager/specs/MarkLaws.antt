@@ -10,7 +10,9 @@ use lib.ListN.{length, getD, set, replicate}
 use lib.Seq.{getD-set-same, getD-set-other}
 use lib.Dec.{leb}
 use borrow.Author.Tests.{le-leb, lt-leb, le-ltb, lt-ltb}
-use Rattle.interval_store_manager.specs.Marks.{filled, Unmarked}
+use Rattle.terms.specs.Below.{one, sumBelow, sum-same, countBelow}
+use Rattle.interval_store_manager.specs.Intervals.{isFree, freeNumber}
+use Rattle.interval_store_manager.specs.Marks.{filled, Unmarked, Marks}
 
 -- a list of zeros marks nothing
 pub unmarked : (n : ℕ) → Unmarked (replicate n 0)
@@ -49,3 +51,8 @@ filled-more old marks from i h g f k =
                 ]
           ])
     ]
+
+-- the marks below the capacity are as many as the free indices
+pub marks-count : (c n : ℕ) (ss es marks : List ℕ) → Marks n ss es marks → sumBelow c (λ k. getD marks k 0) ≡ freeNumber c n ss es
+unfolding freeNumber countBelow
+marks-count c n ss es marks m = sum-same c (λ k. getD marks k 0) (λ k. one (isFree n ss es k)) (λ k l. m k)

@@ -1,7 +1,7 @@
 // Well-formedness of a manager in one linear pass: every free index is marked, and the marks are as many as the intervals'
 // sizes add up to exactly where no two intervals share an index.
 ghost use mathlib.Core.Path.{_≡_};
-ghost use Prim.Native.Nat.{ℕ, _≤_};
+ghost use Prim.Native.Nat.{ℕ, _≤_, _<_};
 ghost use lib.ListN.{length, getD};
 ghost use Rattle.terms.specs.Below.{sumBelow};
 ghost use Rattle.interval_store_manager.specs.WellFormed.{capacityAllowed, lentEnough, wellFormed};
@@ -56,13 +56,24 @@ fn count_ones(marks: &[u8], capacity: usize) -> usize
     requires { ⌜ (capacity ≤ 1024) × (capacity ≤ length (now marks)) ⌝ }
     ensures { λ r. ⌜ r ≡ sumBelow capacity (λ k. getD (now (marks .entry)) k 0) ⌝ }
 {
-    let mut total: usize = 0;
+    let mut total: u32 = 0;
     let mut i = 0;
     while i < capacity {
-        total += marks[i] as usize;
+        total += marks[i] as u32;
         i += 1;
     }
-    total
+    total as usize
+}
+
+// The same after a pass over n intervals whose sizes add up to total: fewer than two share no index, and none is counted.
+fn marked_number(marks: &[u8], capacity: usize, n: usize, total: usize) -> usize
+    requires { ⌜ (capacity ≤ 1024) × ((capacity ≤ length (now marks)) × ((n < 2 → total ≡ sumBelow capacity (λ k. getD (now marks) k 0)))) ⌝ }
+    ensures { λ r. ⌜ r ≡ sumBelow capacity (λ k. getD (now (marks .entry)) k 0) ⌝ }
+{
+    if n < 2 {
+        return total;
+    }
+    count_ones(marks, capacity)
 }
 
 // Marks every index that the first n intervals hold, and stops where an interval is out of bounds or the sizes pass the
@@ -107,9 +118,9 @@ fn mark_intervals(
     Sizes { ok: true, total }
 }
 
-// Checks the manager and marks its free indices.
+// Checks the manager and marks its free indices, in a table that has an entry for each of them.
 pub fn mark_free(m: IntervalStoreManager, starts: &[u16], ends: &[u16], marks: &mut [u8]) -> Checked
-    requires { ⌜ (1024 ≤ length (now marks)) × Unmarked (now marks) ⌝ }
+    requires { ⌜ ((m .capacity ≤ 1024 → m .capacity ≤ length (now marks))) × Unmarked (now marks) ⌝ }
     ensures { λ r. ⌜ Marked m (now (starts .entry)) (now (ends .entry)) (now (marks .exit)) (r .ok) (r .free) ⌝ }
 {
     let capacity = m.capacity;
@@ -121,7 +132,7 @@ pub fn mark_free(m: IntervalStoreManager, starts: &[u16], ends: &[u16], marks: &
                 let ok = sizes.ok;
                 let total = sizes.total;
                 if ok {
-                    let free = count_ones(marks, capacity);
+                    let free = marked_number(marks, capacity, n, total);
                     return Checked {
                         ok: free == total,
                         free,

@@ -3,12 +3,14 @@ use Prim.Native.Nat.{ℕ, _≤_}
 use native.Mathlib.Omega.{arith}
 use mathlib.Core.List.{List}
 use mathlib.Core.Bool.{Bool, true, false}
-use mathlib.Core.Path.{_≡_, sym, _∙_}
+use mathlib.Core.Path.{_≡_, sym, _∙_, ap}
 use lib.ListN.{length}
 use lib.Dec.{leb}
 use borrow.Author.Tests.{le-leb, leb-true}
 use Rattle.terms.specs.Below.{both, and-make, fails, everyBelow}
 use Rattle.interval_store_manager.specs.WellFormed.{wellFormed}
+use Rattle.interval_store_manager.specs.Intervals.{freeNumber}
+use Rattle.interval_store_manager.specs.MarkLaws.{marks-count}
 use Rattle.interval_store_manager.specs.Sound as manager
 use Rattle.labels.specs.Labels.{Labels, labelCountAt, labelsWell}
 use Rattle.labels.specs.Sound.{Sound, sound}
@@ -76,9 +78,9 @@ module _ (classes : List ℕ) (c : ℕ) (l : Labels) where
         marks-lent = omega (arith, most e q, g);
       }
 
-  pub slots-lent : (marks sums : List ℕ) → labelsManaged ≡ true → l .labelTable .manager .capacity ≡ c → lent ≡ true → length marks ≡ 1024 → length sums ≡ 1024 → SlotsLent c (l .attributes) (l .attributeTable .counts) marks sums
+  pub slots-lent : (marks sums : List ℕ) (free : ℕ) → MarksOf (l .attributeTable) marks → free ≡ freeNumber (l .attributeTable .manager .capacity) (l .attributeTable .manager .last_in_use) (l .attributeTable .starts) (l .attributeTable .ends) → l .attributeTable .manager .capacity ≡ c → labelsManaged ≡ true → l .labelTable .manager .capacity ≡ c → lent ≡ true → length marks ≡ 1024 → length sums ≡ 1024 → SlotsLent c free (l .attributes) (l .attributeTable .counts) marks sums
   unfolding tablesLent
-  slots-lent marks sums e q t g h =
+  slots-lent marks sums free m number same e q t g h =
       let t1 = both (leb c (length (l .labels))) _ t in
       let t2 = both (leb c (length (l .labelAttributes))) _ (t1 .1) in
       let t3 = both (leb c (length (l .labelTable .counts))) _ (t2 .1) in
@@ -88,6 +90,10 @@ module _ (classes : List ℕ) (c : ℕ) (l : Labels) where
         counts-lent = leb-true c (length (l .attributeTable .counts)) (t4 .1);
         marks-lent = omega (arith, most e q, g);
         sums-lent = omega (arith, most e q, h);
+        free-is =
+            number
+            ∙ (ap (λ (k : ℕ). freeNumber k (l .attributeTable .manager .last_in_use) (l .attributeTable .starts) (l .attributeTable .ends)) same
+            ∙ sym (marks-count c (l .attributeTable .manager .last_in_use) (l .attributeTable .starts) (l .attributeTable .ends) marks m));
       }
 
   -- a label that does not pass

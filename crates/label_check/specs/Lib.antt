@@ -1,3 +1,5 @@
 pub mod Checks
 pub mod CheckLaws
 pub mod CheckedLaws
+pub mod SlotPass
+pub mod LabelPass

@@ -93,7 +93,14 @@ fn label_half_well_formed(
                     &label_marks,
                     &mut sums,
                 ) {
-                    return slots_pass(capacity, attributes, attribute_count, &slot_marks, &sums);
+                    return slots_pass(
+                        capacity,
+                        slot_check.free,
+                        attributes,
+                        attribute_count,
+                        &slot_marks,
+                        &sums,
+                    );
                 }
             }
         }

@@ -11,8 +11,8 @@ use made::Made;
 use made::Top;
 use made::make;
 use made::top_of;
+use recorded_text::count_lines;
 use text::Line;
-use text::count_lines;
 use text::line_at;
 
 // What the replay of one line finds: the manager after it, and where the next line starts.

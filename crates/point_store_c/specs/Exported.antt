@@ -1,7 +1,7 @@
 -- What the manager's definitions become for a C caller: a record of words, a return value, and a lent number for the answer.
 use Prim.Native.Nat.{ℕ}
 use mathlib.Core.List.{List}
-use mathlib.Core.Bool.{Bool, true, false, cond}
+use mathlib.Core.Bool.{cond}
 use lib.ListN.{length, getD, set}
 use lib.Dec.{leb}
 use Rattle.terms.specs.Below.{one}

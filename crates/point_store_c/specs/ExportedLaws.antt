@@ -3,16 +3,16 @@ use Prim.Native.Nat.{ℕ, _≤_, _<_}
 use native.Mathlib.Omega.{arith}
 use native.Mathlib.Decide.{decLt}
 use mathlib.Core.List.{List}
-use mathlib.Core.Bool.{Bool, true, false, cond, _&&_}
+use mathlib.Core.Bool.{Bool, true, false, cond}
 use mathlib.Core.Path.{_≡_, refl, sym, _∙_, ap}
 use lib.ListN.{length, getD}
-use lib.Dec.{leb, ltb}
+use lib.Dec.{ltb}
 use borrow.Author.Tests.{le-leb, lt-leb}
 use mir.Val.{boolByte}
 use Rattle.terms.specs.Below.{one}
 use Rattle.interval_store_manager.specs.declared.IntervalStoreManager.{IntervalStoreManager}
 use Rattle.interval_store_manager.specs.WellFormed.{capacityAllowed, wellFormed}
-use Rattle.interval_store_manager.specs.Answers.{Answer, opened, done, given, holds, says, refused, Opening, opening, Outcome, outcome}
+use Rattle.interval_store_manager.specs.Answers.{Answer, opened, done, given, holds, says, refused, opening, Outcome, outcome}
 use Rattle.interval_store_manager.specs.Calls.{manager, refuse, carriedOut, changed, newSpec, changeDecided, changeSpec, getDecided, getSpec, releaseDecided, releaseSpec}
 use Rattle.point_store_c.specs.Exported.{managerIn, managerOut, openedAs, exported, exportedCall, exportedOpening, read, exportedReading}
 
@@ -104,7 +104,7 @@ module _ (words : List ℕ) (size : ℕ) (starts ends : List ℕ) where
     open-done m e = open-long (opened m) e
 
 -- a bool's cast
-cast-one : (b : Bool) → boolByte b ≡ one b
+pub cast-one : (b : Bool) → boolByte b ≡ one b
 cast-one true = refl
 cast-one false = refl
 

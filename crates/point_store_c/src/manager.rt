@@ -3,7 +3,7 @@
 ghost use mathlib.Core.Path.{_≡_};
 ghost use Prim.Native.Nat.{_≤_};
 ghost use lib.ListN.{length};
-ghost use Rattle.interval_store_manager.specs.Calls.{newSpec, changeSpec, getSpec, releaseSpec, usedSpec, isEmptySpec, getCapacitySpec};
+ghost use Rattle.interval_store_manager.specs.Calls.{changeSpec, getSpec, releaseSpec, usedSpec, isEmptySpec, getCapacitySpec};
 ghost use Rattle.point_store_c.specs.Exported.{managerIn, managerOut, exported, exportedOpening, exportedCall, read, exportedReading};
 use interval_store_manager::Changed;
 use interval_store_manager::Emptiness;

@@ -59,7 +59,7 @@ module _ {E F : Type 0} (store window : List F) where
       pair-refilled false k go = rest (pairDone p q) ∙ ap (λ (x : PointStore F). adjustFrom n qs x) done-refilled
       pair-refilled false k (refuse j) = refl
 
-  from-refilled : (n : ℕ) (qs : List Pairing) (p : PointStore E) → filled (adjustFrom n qs p) ≡ adjustFrom n qs (fill p)
+  pub from-refilled : (n : ℕ) (qs : List Pairing) (p : PointStore E) → filled (adjustFrom n qs p) ≡ adjustFrom n qs (fill p)
   unfolding adjustFrom
   from-refilled n [] p = refl
   from-refilled n (q ∷ qs) p =

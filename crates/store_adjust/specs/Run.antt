@@ -86,7 +86,7 @@ pub record State {E : Type 0} (rows : List (List ℕ)) (p₀ p : PointStore E) (
   pub formed : wellFormed p ≡ true
   pub run : adjustFrom i (pairings (drop i rows)) p ≡ adjustSpec p₀ (pairings rows)
 
-spec-well : {E : Type 0} (p : PointStore E) (qs : List Pairing) → wellFormed p ≡ true → adjustFrom 0 qs p ≡ adjustSpec p qs
+pub spec-well : {E : Type 0} (p : PointStore E) (qs : List Pairing) → wellFormed p ≡ true → adjustFrom 0 qs p ≡ adjustSpec p qs
 unfolding adjustSpec
 spec-well p qs f = rw (well p f)
 

@@ -1,39 +1,48 @@
--- One more entry of the points' table.
-use Prim.Native.Nat.{ℕ, _+_, _*_, _≤_}
-use native.Mathlib.Nat.{mul-le-mul-left, mul-le-mul-right}
+-- One more entry of the points' table, and the first place whose row would end past the free start.
+use Prim.Native.Nat.{ℕ, _+_, _-_, _*_, _/_, _≤_, _<_}
+use native.Mathlib.Nat.{div-le-self, le-div-iff-mul-le}
 use native.Mathlib.Numerals.{add-one}
+use native.Mathlib.Decide.{decLt}
 use native.Mathlib.Omega.{arith}
 use mathlib.Core.List.{List}
-use mathlib.Core.Bool.{Bool, true, false, _&&_, _||_, not, Bool·beq}
-use mathlib.Core.Path.{_≡_, refl, ap}
-use mir.Val.{boolByte}
+use mathlib.Core.Bool.{Bool, _&&_}
+use mathlib.Core.Path.{_≡_, sym, _∙_}
 use lib.ListN.{getD}
-use lib.Dec.{eqb}
-use Rattle.terms.specs.Below.{one, everyBelow, sumBelow, countBelow}
-use Rattle.store_check.specs.Entries.{entryWell, entriesWell, countsLive}
+use lib.Dec.{leb, ltb}
+use borrow.Author.Tests.{lt-ltb, le-ltb, le-leb, lt-leb}
+use Rattle.terms.specs.Below.{everyBelow}
+use Rattle.store_check.specs.Entries.{placeLimit, entryWell, entriesWell}
 
-pub entries-more : (i base dims free : ℕ) (marks counts location : List ℕ) (ok well : Bool) → ok ≡ entriesWell i base dims free marks counts location → well ≡ entryWell base dims free (getD marks i 0) (getD counts i 0) (getD location i 0) → (ok && well) ≡ entriesWell (i + 1) base dims free marks counts location
+pub entries-more : (i limit : ℕ) (marks counts location : List ℕ) (ok well : Bool) → ok ≡ entriesWell i limit marks counts location → well ≡ entryWell limit (getD marks i 0) (getD counts i 0) (getD location i 0) → (ok && well) ≡ entriesWell (i + 1) limit marks counts location
 unfolding entriesWell everyBelow
-entries-more i base dims free marks counts location ok well e f = rw (add-one i, e, f)
+entries-more i limit marks counts location ok well e f = rw (add-one i, e, f)
 
-pub live-more : (i : ℕ) (counts : List ℕ) (live : ℕ) → live ≡ countsLive i counts → live + boolByte (not (eqb (getD counts i 0) 0)) ≡ countsLive (i + 1) counts
-unfolding countsLive countBelow sumBelow
-live-more i counts live e = rw (add-one i, e) (ap (λ (x : ℕ). countsLive i counts + x) (byte-one (not (eqb (getD counts i 0) 0))))
-  where
-    byte-one : (b : Bool) → boolByte b ≡ one b
-    byte-one true = refl
-    byte-one false = refl
+module _ (base dims free : ℕ) where
+  -- a row ends by the free start exactly where its place is below the limit
+  pub ends-below : 0 < base → (place : ℕ) → leb (place * base + dims) free ≡ ltb place (placeLimit base dims free)
+  unfolding placeLimit
+  ends-below some place =
+      elim (decLt free dims) [
+        | yes l ↦ rw (lt-ltb free dims l) (lt-leb (place * base + dims) free (omega arith) ∙ sym (le-ltb place 0 (omega arith)))
+        | no g ↦
+            rw (le-ltb free dims (omega arith))
+            (elim (decLt place ((free - dims) / base + 1)) [
+              | yes l ↦
+                  let ends : place * base ≤ free - dims = le-div-iff-mul-le some .0 (omega arith) in
+                  le-leb (place * base + dims) free (omega arith) ∙ sym (lt-ltb place ((free - dims) / base + 1) l)
+              | no h ↦
+                  let past : free - dims < place * base = elim (decLt (free - dims) (place * base)) [
+                    | yes u ↦ u
+                    | no v ↦ let low : place ≤ (free - dims) / base = le-div-iff-mul-le some .1 (omega arith) in absurd (omega arith)
+                  ] in
+                  lt-leb (place * base + dims) free (omega arith) ∙ sym (le-ltb place ((free - dims) / base + 1) (omega arith))
+            ])
+      ]
 
--- a place's end fits
-pub end-fits : (place base : ℕ) → place ≤ 65535 → base ≤ 64 → place * base ≤ 4194240
-end-fits place base h g = omega (arith, mul-le-mul-right base h, mul-le-mul-left 65535 g)
-
--- an entry with count 0 and an empty place is well, whatever the place's end
-pub empty-or : (e l : Bool) → e ≡ (Bool·beq true e && (e || l))
-empty-or true l = refl
-empty-or false l = refl
-
--- a bool as a number
-pub byte-le : (b : Bool) → boolByte b ≤ 1
-byte-le true = omega arith
-byte-le false = omega arith
+  pub limit-most : 0 < dims → free ≤ 16384 → placeLimit base dims free ≤ 16384
+  unfolding placeLimit
+  limit-most some h =
+      elim (decLt free dims) [
+        | yes l ↦ rw (lt-ltb free dims l) (omega arith)
+        | no g ↦ rw (le-ltb free dims (omega arith)) (omega (arith, div-le-self (free - dims) base))
+      ]

@@ -1,22 +1,26 @@
 -- What the check asks of each entry of the points' table, and of the places met so far.
-use Prim.Native.Nat.{ℕ, zero, suc, _+_, _*_, _≤_, _<_}
+use Prim.Native.Nat.{ℕ, zero, suc, _+_, _-_, _/_, _≤_, _<_}
 use native.Mathlib.Omega.{arith}
 use mathlib.Core.Path.{_≡_}
 use mathlib.Core.List.{List}
-use mathlib.Core.Bool.{Bool, false, cond, _&&_, _||_, not, Bool·beq}
+use mathlib.Core.Bool.{Bool, true, false, cond, _&&_, _||_, not, Bool·beq}
 use lib.ListN.{getD, set}
-use lib.Dec.{leb, eqb}
+use lib.Dec.{ltb, eqb}
 use Rattle.terms.specs.Below.{everyBelow, countBelow}
 
--- count 0 exactly where the index is marked free and exactly where the place is empty; a place that is not ends by the free start
-unfoldable pub entryWell : (base dims free mark count place : ℕ) → Bool
-entryWell base dims free mark count place =
-    Bool·beq (eqb mark 1) (eqb count 0)
-    && (Bool·beq (eqb count 0) (eqb place 65535) && (eqb place 65535 || leb (place * base + dims) free))
+-- the first place whose row would end past the free start
+unfoldable pub placeLimit : (base dims free : ℕ) → ℕ
+placeLimit base dims free = cond (ltb free dims) 0 ((free - dims) / base + 1)
 
-unfoldable pub entriesWell : (n base dims free : ℕ) → (marks counts location : List ℕ) → Bool
-entriesWell n base dims free marks counts location =
-    everyBelow n (λ i. entryWell base dims free (getD marks i 0) (getD counts i 0) (getD location i 0))
+-- count 0 exactly where the index is marked free and exactly where the place is empty; a place that is not is below the limit
+unfoldable pub entryWell : (limit mark count place : ℕ) → Bool
+entryWell limit mark count place =
+    Bool·beq (eqb mark 1) (eqb count 0)
+    && (Bool·beq (eqb count 0) (eqb place 65535) && (eqb place 65535 || ltb place limit))
+
+unfoldable pub entriesWell : (n limit : ℕ) → (marks counts location : List ℕ) → Bool
+entriesWell n limit marks counts location =
+    everyBelow n (λ i. entryWell limit (getD marks i 0) (getD counts i 0) (getD location i 0))
 
 -- how many counts are above 0
 unfoldable pub countsLive : ℕ → List ℕ → ℕ
@@ -27,12 +31,16 @@ unfoldable pub stands : ℕ → List ℕ → ℕ → Bool
 stands zero location place = false
 stands (suc n) location place = stands n location place || eqb place (getD location n 65535)
 
--- a place that is empty or not marked, and the marks with it
-unfoldable pub placeFresh : ℕ → List ℕ → Bool
-placeFresh place marks = eqb place 65535 || not (eqb (getD marks place 0) 1)
+-- a place that is not empty and is marked already, and the marks with it
+unfoldable pub placeMet : ℕ → List Bool → Bool
+placeMet place marks = not (eqb place 65535) && getD marks place false
 
-unfoldable pub placeMarked : ℕ → List ℕ → List ℕ
-placeMarked place marks = cond (eqb place 65535) marks (set marks place 1)
+unfoldable pub placeMarked : ℕ → List Bool → List Bool
+placeMarked place marks = cond (eqb place 65535) marks (set marks place true)
+
+-- no place is marked
+abbrev pub NoneMarked : List Bool → Type 0
+NoneMarked marks = (q : ℕ) → getD marks q false ≡ false
 
 -- the live places of the first n entries are below a limit
 abbrev pub PlacesBelow : ℕ → ℕ → List ℕ → Type 0

@@ -1,97 +1,87 @@
 // The points' half: the stack of free indices, the counts and the places.
-ghost use mathlib.Core.Bool.{true};
 ghost use mathlib.Core.Path.{_≡_};
 ghost use Prim.Native.Nat.{ℕ, _≤_, _<_};
 ghost use lib.ListN.{length, getD};
-ghost use Rattle.interval_store_manager.specs.Marks.{Unmarked};
 ghost use Rattle.store_definitions.specs.WellFormed.{placesDistinct};
-ghost use Rattle.store_check.specs.Entries.{entryWell, entriesWell, countsLive, placeFresh, placeMarked, PlacesBelow};
+ghost use Rattle.store_check.specs.Entries.{placeLimit, entryWell, entriesWell, placeMet, placeMarked, NoneMarked, PlacesBelow};
 
-// What a pass over the entries finds: whether all are well, and how many are live.
-pub struct EntriesChecked {
-    pub ok: bool,
-    pub live: usize,
+// The first place whose row would end past the free start: a row ends by it exactly where its place is below the limit.
+pub fn place_limit(base: usize, dims: usize, free: usize) -> u16
+    requires { ⌜ (0 < base) × (free ≤ 16384) ⌝ }
+    ensures { λ r. ⌜ r ≡ placeLimit base dims free ⌝ }
+{
+    if free < dims {
+        return 0;
+    }
+    ((free - dims) / base + 1) as u16
 }
 
-fn entry_well(base: usize, dims: usize, free: usize, mark: u8, count: u16, place: u16) -> bool
-    requires { ⌜ (base ≤ 64) × (dims ≤ 64) ⌝ }
-    ensures { λ r. ⌜ r ≡ entryWell base dims free mark count place ⌝ }
+// Without a branch, so that the pass over the entries is compiled to vector instructions.
+fn entry_well(limit: u16, mark: u8, count: u16, place: u16) -> bool
+    ensures { λ r. ⌜ r ≡ entryWell limit mark count place ⌝ }
 {
-    if count == 0 {
-        if mark == 1 {
-            return place == 65535;
-        }
-        return false;
-    }
-    if mark == 1 {
-        return false;
-    }
-    if place == 65535 {
-        return false;
-    }
-    (place as usize) * base + dims <= free
+    let freed = mark == 1;
+    let dead = count == 0;
+    let empty = place == 65535;
+    let low = place < limit;
+    (freed == dead) & ((dead == empty) & (empty | low))
 }
 
 // No early exit: every entry is read.
 pub fn entries_well(
     n: usize,
-    base: usize,
-    dims: usize,
-    free: usize,
+    limit: u16,
     marks: &[u8],
     reference_count: &[u16],
     location: &[u16],
-) -> EntriesChecked
-    requires { ⌜ (base ≤ 64) × ((dims ≤ 64) × ((n ≤ length (now marks)) × ((n ≤ length (now «reference_count»)) × (n ≤ length (now location))))) ⌝ }
-    ensures { λ r. ⌜ (r .ok ≡ entriesWell n base dims free (now (marks .entry)) (now («reference_count» .entry)) (now (location .entry))) × (r .live ≡ countsLive n (now («reference_count» .entry))) ⌝ }
+) -> bool
+    requires { ⌜ (n ≤ length (now marks)) × ((n ≤ length (now «reference_count»)) × (n ≤ length (now location))) ⌝ }
+    ensures { λ r. ⌜ r ≡ entriesWell n limit (now (marks .entry)) (now («reference_count» .entry)) (now (location .entry)) ⌝ }
 {
     let mut ok = true;
-    let mut live: usize = 0;
     let mut i = 0;
     while i < n {
-        let count = reference_count[i];
-        let well = entry_well(base, dims, free, marks[i], count, location[i]);
+        let well = entry_well(limit, marks[i], reference_count[i], location[i]);
         ok = ok & well;
-        live += (count != 0) as usize;
-        i += 1;
-    }
-    EntriesChecked { ok, live }
-}
-
-// Marks a place that is not empty; false where it is marked already.
-fn mark_place(place: u16, marks: &mut [u8]) -> bool
-    requires { ⌜ ((place ≡ 65535 → ⊥) → place < length (now marks)) ⌝ }
-    ensures { λ r. ⌜ (r ≡ placeFresh place (now (marks .entry))) × (now (marks .exit) ≡ placeMarked place (now (marks .entry))) ⌝ }
-{
-    if place == 65535 {
-        return true;
-    }
-    let at = place as usize;
-    let fresh = marks[at] != 1;
-    marks[at] = 1;
-    fresh
-}
-
-// Whether the live places of the first n entries are distinct: each is marked, and none may be marked already.
-fn mark_places(n: usize, location: &[u16], marks: &mut [u8]) -> bool
-    requires { ⌜ (n ≤ length (now location)) × (Unmarked (now marks) × PlacesBelow (length (now marks)) n (now location)) ⌝ }
-    ensures { λ r. ⌜ r ≡ placesDistinct n (now (location .entry)) ⌝ }
-{
-    let mut ok = true;
-    let mut i = 0;
-    while i < n {
-        let fresh = mark_place(location[i], marks);
-        ok = ok & fresh;
         i += 1;
     }
     ok
+}
+
+// Marks a place that is not empty, and says whether it is marked already.
+fn mark_place(place: u16, marks: &mut [bool]) -> bool
+    requires { ⌜ ((place ≡ 65535 → ⊥) → place < length (now marks)) ⌝ }
+    ensures { λ r. ⌜ (r ≡ placeMet place (now (marks .entry))) × (now (marks .exit) ≡ placeMarked place (now (marks .entry))) ⌝ }
+{
+    if place == 65535 {
+        return false;
+    }
+    let at = place as usize;
+    let met = marks[at];
+    marks[at] = true;
+    met
+}
+
+// Whether the live places of the first n entries are distinct: each is marked, and none may be marked already.
+fn mark_places(n: usize, location: &[u16], marks: &mut [bool]) -> bool
+    requires { ⌜ (n ≤ length (now location)) × (NoneMarked (now marks) × PlacesBelow (length (now marks)) n (now location)) ⌝ }
+    ensures { λ r. ⌜ r ≡ placesDistinct n (now (location .entry)) ⌝ }
+{
+    let mut met = false;
+    let mut i = 0;
+    while i < n {
+        let again = mark_place(location[i], marks);
+        met = met | again;
+        i += 1;
+    }
+    !met
 }
 
 fn distinct_256(n: usize, location: &[u16]) -> bool
     requires { ⌜ (n ≤ length (now location)) × PlacesBelow 256 n (now location) ⌝ }
     ensures { λ r. ⌜ r ≡ placesDistinct n (now (location .entry)) ⌝ }
 {
-    let mut marks = [0u8; 256];
+    let mut marks = [false; 256];
     mark_places(n, location, &mut marks[..])
 }
 
@@ -99,7 +89,7 @@ fn distinct_1024(n: usize, location: &[u16]) -> bool
     requires { ⌜ (n ≤ length (now location)) × PlacesBelow 1024 n (now location) ⌝ }
     ensures { λ r. ⌜ r ≡ placesDistinct n (now (location .entry)) ⌝ }
 {
-    let mut marks = [0u8; 1024];
+    let mut marks = [false; 1024];
     mark_places(n, location, &mut marks[..])
 }
 
@@ -107,7 +97,7 @@ fn distinct_4096(n: usize, location: &[u16]) -> bool
     requires { ⌜ (n ≤ length (now location)) × PlacesBelow 4096 n (now location) ⌝ }
     ensures { λ r. ⌜ r ≡ placesDistinct n (now (location .entry)) ⌝ }
 {
-    let mut marks = [0u8; 4096];
+    let mut marks = [false; 4096];
     mark_places(n, location, &mut marks[..])
 }
 
@@ -115,7 +105,7 @@ fn distinct_16384(n: usize, location: &[u16]) -> bool
     requires { ⌜ (n ≤ length (now location)) × PlacesBelow 16384 n (now location) ⌝ }
     ensures { λ r. ⌜ r ≡ placesDistinct n (now (location .entry)) ⌝ }
 {
-    let mut marks = [0u8; 16384];
+    let mut marks = [false; 16384];
     mark_places(n, location, &mut marks[..])
 }
 

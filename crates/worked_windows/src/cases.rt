@@ -1,12 +1,4 @@
-// Document 01's worked windows, case by case.
-use crate::block::Block;
-use crate::block::add_row;
-use crate::block::compact_block;
-use crate::block::copy_point;
-use crate::block::count_point;
-use crate::block::dec_point;
-use crate::block::inc_point;
-use crate::block::open_block;
+// Document 01's worked windows, case by case. With labels off an add's code is not looked at, and the label index is none.
 use crate::print::added;
 use crate::print::answer;
 use crate::print::done;
@@ -15,9 +7,18 @@ use crate::print::number;
 use crate::print::row;
 use crate::print::text;
 use crate::print::word;
+use block::Block;
+use block::add_row;
+use block::compact_block;
+use block::copy_point;
+use block::count_point;
+use block::dec_point;
+use block::inc_point;
+use block::open_block;
 use store_definitions::Shape;
+use terms::NONE;
 
-fn opened(
+pub fn opened(
     internal_shingling: bool,
     internal_rotation: bool,
     capacity: usize,
@@ -42,9 +43,9 @@ fn opened(
 }
 
 // An add of two floats, with internal shingling.
-fn add_two(b: Block, x: usize, y: usize) -> Block {
+pub fn add_two(b: Block, x: usize, y: usize) -> Block {
     let point = [word(x), word(y)];
-    let r = add_row(b, &point[..]);
+    let r = add_row(b, &point[..], 0);
     text(b"  add ");
     number(x);
     text(b" ");
@@ -60,7 +61,7 @@ fn add_two(b: Block, x: usize, y: usize) -> Block {
 // An add of a whole row.
 fn add_four(b: Block, x: usize, y: usize, z: usize, w: usize) -> Block {
     let point = [word(x), word(y), word(z), word(w)];
-    let r = add_row(b, &point[..]);
+    let r = add_row(b, &point[..], 0);
     text(b"  add ");
     row(point);
     text(b": ");
@@ -72,7 +73,7 @@ fn add_four(b: Block, x: usize, y: usize, z: usize, w: usize) -> Block {
 }
 
 fn dec_one(b: Block, i: usize) -> Block {
-    let r = dec_point(b, i);
+    let r = dec_point(b, i, NONE);
     text(b"  dec ");
     number(i);
     text(b": ");
@@ -94,16 +95,16 @@ fn compacted(b: Block) -> Block {
 }
 
 fn copied(b: Block, i: usize) {
-    let r = copy_point(b, i);
+    let mut given = [0u32; 4];
+    copy_point(b, i, &mut given[..]);
     text(b"  copy ");
     number(i);
     text(b": ");
-    let given = r.row;
     row(given);
     text(b"\n");
 }
 
-fn five_adds(b: Block) -> Block {
+pub fn five_adds(b: Block) -> Block {
     let b1 = add_two(b, 1, 2);
     let b2 = add_two(b1, 3, 4);
     let b3 = add_two(b2, 5, 6);
@@ -159,7 +160,7 @@ fn counted_up(b: Block, until: usize) -> Block {
     let mut up = b;
     let mut n: usize = 1;
     while n < until {
-        let r = inc_point(up, 0);
+        let r = inc_point(up, 0, NONE);
         up = r.block;
         n += 1;
     }
@@ -167,7 +168,7 @@ fn counted_up(b: Block, until: usize) -> Block {
 }
 
 fn inc_one(b: Block) -> Block {
-    let r = inc_point(b, 0);
+    let r = inc_point(b, 0, NONE);
     text(b"  inc 0: ");
     let d = r.answer;
     done(d);

@@ -2,7 +2,9 @@
 use libc::STDOUT_FILENO;
 use placement::Laid;
 use store_definitions::Added;
+use store_definitions::Adjusted;
 use store_definitions::Done;
+use store_definitions::Equality;
 use store_definitions::Kept;
 use store_definitions::Number;
 use terms::Refusal;
@@ -81,10 +83,37 @@ pub fn done(d: Done) {
     }
 }
 
+pub fn adjusted(a: Adjusted) {
+    match a {
+        Adjusted::Done => text(b"done"),
+        Adjusted::Refused(r, pairs) => {
+            refusal(r);
+            text(b" after ");
+            number(pairs);
+            text(b" pairs");
+        }
+    }
+}
+
 pub fn answer(n: Number) {
     match n {
         Number::Is(k) => number(k),
         Number::Refused(r) => refusal(r),
+    }
+}
+
+fn truth(b: bool) {
+    if b {
+        text(b"true");
+        return;
+    }
+    text(b"false");
+}
+
+pub fn equality(e: Equality) {
+    match e {
+        Equality::Is(b) => truth(b),
+        Equality::Refused(r) => refusal(r),
     }
 }
 
@@ -117,6 +146,16 @@ pub fn row(r: [u32; 4]) {
     float(r[2]);
     text(b" ");
     float(r[3]);
+}
+
+// Any number of floats, each after a space.
+pub fn vector(v: &[u32]) {
+    let mut i: usize = 0;
+    while i < v.len() {
+        text(b" ");
+        float(v[i]);
+        i += 1;
+    }
 }
 
 // The end of a line: the free start after the call.

@@ -16,15 +16,21 @@ const SPECIAL: [u32; 10] = [
     0x7f7f_ffff,
 ];
 
-/// The program that replays the calls holds its memory by value: at most 64 points and so many floats.
-const MOST_FLOATS: usize = 1_024;
+const LARGEST_DIMENSIONS: usize = 32;
+const LARGEST_CAPACITY: usize = 16;
 
-pub fn any_opening(random: &mut Random) -> Opening {
-    let most = [4, 4, 8, 8, 64][random.below(5)];
-    let dimensions = random.within(1, most);
+/// A shape that fits the program's memory, 16 points and 512 floats. The lists go through all dimensions once, then on among
+/// small ones, and through all flags.
+pub fn any_opening(list: usize, random: &mut Random) -> Opening {
+    let dimensions = if list < LARGEST_DIMENSIONS {
+        list + 1
+    } else {
+        random.within(1, 8)
+    };
     let divisors: Vec<usize> = (1..=dimensions).filter(|d| dimensions % d == 0).collect();
-    let largest = [6, 12, 30, 64][random.below(4)].min(MOST_FLOATS / dimensions);
+    let largest = [4, 8, LARGEST_CAPACITY][random.below(3)];
     let capacity = random.within(1, largest);
+    let flags = list + list / 8;
     Opening {
         dimensions,
         shingle_size: divisors[random.below(divisors.len())],
@@ -34,9 +40,9 @@ pub fn any_opening(random: &mut Random) -> Opening {
         } else {
             random.within(1, capacity)
         },
-        internal_shingling: random.one_in(2),
-        internal_rotation: random.one_in(2),
-        store_labels: random.one_in(2),
+        internal_shingling: flags & 1 == 1,
+        internal_rotation: flags & 2 == 2,
+        store_labels: flags & 4 == 4,
     }
 }
 
@@ -116,10 +122,16 @@ impl Chooser {
             }
         };
         let (index, label) = (pick(&live, random), label(random));
+        // Now and then an index that is not in use.
+        let past = if random.one_in(10) {
+            r.rust.table_length()
+        } else {
+            index
+        };
         if which < self.adds + self.decs {
-            r.dec(index, label);
+            r.dec(past, label);
         } else if which < self.adds + self.decs + 6 {
-            r.inc(index, label);
+            r.inc(past, label);
         } else if which < self.adds + self.decs + 10 {
             let skipped = [NONE, 0, 0, 0];
             let pairs = [
@@ -127,7 +139,10 @@ impl Chooser {
                 [index, label, NONE, NONE],
                 [pick(&live, random), label, index, label],
             ];
-            r.adjust(&pairs[random.below(2)..]);
+            match past == index {
+                true => r.adjust(&pairs[random.below(2)..]),
+                false => r.adjust(&[skipped, skipped, [past, label, index, label]][random.below(3)..]),
+            }
         } else if which < self.adds + self.decs + 13 {
             r.compact();
         } else {
@@ -143,48 +158,83 @@ impl Chooser {
         } else {
             index
         };
-        let attributes = o.store_labels && r.slots && random.one_in(3);
+        let attributes = o.store_labels && r.slots && !random.one_in(3);
         match if attributes { 11 } else { random.below(12) } {
             0 if index < r.rust.table_length() => {
                 let count = r.rust.point_count(index);
-                r.line(7, &[index], 0, &[count]);
+                r.line(7, [index, 0], &[], 0, &[count]);
             }
-            0..=3 => r.read(6, &[index], 5, |s| s.copy(index), |x| words(&x)),
+            0..=3 => r.read(6, [index, o.dimensions], &[], 5, |s| s.copy(index), |x| words(&x)),
             4 => {
                 let mut point = r.rust.copy(pick(live, random)).expect("an index in use");
                 if random.one_in(2) {
                     point[0] = f32::from_bits(self.float(random));
                 }
-                let arguments = [vec![index], words(&point)].concat();
-                r.read(10, &arguments, 5, |s| s.is_equal(&point, index), |x| vec![x as usize]);
+                let row = words(&point);
+                r.read(
+                    8,
+                    [index, 0],
+                    &row,
+                    5,
+                    |s| s.is_equal(&point, index),
+                    |x| vec![x as usize],
+                );
             }
             5 | 6 => {
                 let list = [(index, random.below(5)), (pick(live, random), random.below(16_777_217))];
                 let list = &list[random.below(2)..];
-                let arguments: Vec<usize> = list.iter().flat_map(|i| [i.0, i.1]).collect();
-                r.read(11, &arguments, 5, |s| s.point_sum(list), |x| sum_words(&x));
+                let items: Vec<usize> = list.iter().flat_map(|i| [i.0, i.1]).collect();
+                r.read(
+                    9,
+                    [0, o.dimensions],
+                    &items,
+                    5,
+                    |s| s.point_sum(list),
+                    |x| sum_words(&x),
+                );
             }
             7 => {
                 let n = if random.one_in(4) { o.base() + 1 } else { o.base() };
                 let point = self.row(n, random);
-                let arguments: Vec<usize> = point.iter().map(|w| *w as usize).collect();
-                r.read(12, &arguments, 3, |s| s.shingled_point(&floats(&point)), |x| words(&x));
+                let row: Vec<usize> = point.iter().map(|w| *w as usize).collect();
+                r.read(
+                    10,
+                    [0, o.dimensions],
+                    &row,
+                    3,
+                    |s| s.shingled_point(&floats(&point)),
+                    |x| words(&x),
+                );
             }
             8 => {
                 let look_ahead = random.below(65_536);
                 let values: Vec<usize> = (0..random.below(4)).map(|_| random.below(o.base() + 1)).collect();
-                let arguments = [vec![look_ahead], values.clone()].concat();
-                r.read(13, &arguments, 11, |s| s.missing_indices(look_ahead, &values), |x| x);
+                let arguments = [look_ahead, values.len()];
+                r.read(
+                    11,
+                    arguments,
+                    &values,
+                    11,
+                    |s| s.missing_indices(look_ahead, &values),
+                    |x| x,
+                );
             }
             9 => {
                 let look_ahead = random.below(65_536);
-                r.read(14, &[look_ahead], 11, |s| s.next_indices(look_ahead), |x| x);
+                r.read(
+                    12,
+                    [look_ahead, o.base()],
+                    &[],
+                    11,
+                    |s| s.next_indices(look_ahead),
+                    |x| x,
+                );
             }
-            _ if !o.store_labels => r.read(15, &[0], 6, |s| s.label(0), |x| vec![x.0 as usize]),
-            10 => r.read(15, &[label], 6, |s| s.label(label), |x| vec![x.0 as usize]),
+            _ if !o.store_labels => r.read(13, [0, 0], &[], 6, |s| s.label(0), |x| vec![x.0 as usize]),
+            10 => r.read(13, [label, 0], &[], 6, |s| s.label(label), |x| vec![x.0 as usize]),
             _ if !r.slots => r.compact(),
-            _ if random.one_in(2) => r.read(16, &[label], 6, |s| s.attribute(label), |x| vec![x.0 as usize]),
-            _ => r.read(17, &[label], 6, |s| s.attribute_vec(label), |x| words(&x)),
+            _ if random.one_in(2) => r.read(14, [label, 0], &[], 6, |s| s.attribute(label), |x| vec![x.0 as usize]),
+            _ => r.read(15, [label, 10], &[], 6, |s| s.attribute_vec(label), |x| words(&x)),
         }
     }
 }

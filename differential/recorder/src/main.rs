@@ -1,4 +1,4 @@
-//! Writes calls of the Rust and its answers under a folder: `manager_replay/data/manager_calls` and `replay/data/store_calls_*`.
+//! Writes calls of the Rust and its answers under a folder: `manager_replay/data/manager_calls` and `replay/data/store_calls`.
 mod chosen;
 mod manager;
 mod store;
@@ -16,13 +16,11 @@ fn main() {
     let folder = Path::new(&folder);
     let manager = manager::recorded();
     write(&folder.join("manager_replay/data/manager_calls"), &manager);
-    let files = store::recorded();
-    for (k, lines) in files.iter().enumerate() {
-        write(&folder.join(format!("replay/data/store_calls_{:02}", k + 1)), lines);
-    }
-    let of_store: usize = files.iter().map(|lines| lines.lines().count()).sum();
+    let store = store::recorded();
+    write(&folder.join("replay/data/store_calls"), &store);
     println!(
-        "{} calls of the manager recorded, {of_store} of the store",
-        manager.lines().count()
+        "{} calls of the manager recorded, {} of the store",
+        manager.lines().count(),
+        store.lines().count()
     );
 }

@@ -1,6 +1,7 @@
-//! Calls of the Rust's store and its answers. One call to a line: call, number of arguments, arguments, value, number of
-//! answers, answers, and after the call free start and live number (differential/README.md has the list of calls). All numbers
-//! are decimal and have at most ten digits: a float is its 32 bits, a NaN in a sum is 2143289344, none is 9999999999.
+//! Calls of the Rust's store and its answers. One call to a line: call, two arguments, how many numbers it takes and these,
+//! value, how many numbers it answers and these, and after the call free start and live number (differential/README.md has the
+//! list of calls). All numbers are decimal and have at most ten digits: a float is its 32 bits, a NaN in a sum is 2143289344,
+//! none is 9999999999.
 use crate::chosen::{any_opening, Chooser};
 use random::Random;
 use reference::pointstore::PointStore;
@@ -10,10 +11,10 @@ use std::panic::{catch_unwind, AssertUnwindSafe};
 
 pub const NONE: usize = usize::MAX;
 
-/// A file is no larger than what the program that replays it reads at once.
-const LARGEST_FILE: usize = 65_536;
-const FILES: usize = 10;
-const CALLS_EACH: usize = 90;
+/// The file is no larger than what the program that replays it reads.
+const LARGEST_FILE: usize = 524_288;
+const LISTS: usize = 112;
+const CALLS_EACH: usize = 70;
 
 #[derive(Clone, Copy)]
 pub struct Opening {
@@ -71,14 +72,14 @@ impl Recorder {
         };
         let flags = [o.internal_shingling, o.internal_rotation, o.store_labels].map(|f| f as usize);
         let shape = [o.dimensions, o.shingle_size, o.capacity, o.initial_capacity];
-        recorder.line(0, &[&shape[..], &flags].concat(), 0, &[]);
+        recorder.line(0, [0, 0], &[&shape[..], &flags].concat(), 0, &[]);
         recorder
     }
 
-    /// A call, its arguments, what it returned and its answers.
-    pub fn line(&mut self, call: usize, arguments: &[usize], value: usize, answers: &[usize]) {
-        let mut numbers = vec![call, arguments.len()];
-        numbers.extend(arguments);
+    /// A call, its two arguments and the numbers that it takes, what it returned and its answers.
+    pub fn line(&mut self, call: usize, arguments: [usize; 2], taken: &[usize], value: usize, answers: &[usize]) {
+        let mut numbers = vec![call, arguments[0], arguments[1], taken.len()];
+        numbers.extend(taken);
         numbers.extend([value, answers.len()]);
         numbers.extend(answers);
         numbers.extend([self.rust.free_start(), self.rust.index_manager().used()]);
@@ -107,8 +108,7 @@ impl Recorder {
     /// Whether the Rust takes it. Its errors are document 01's 8, where no label is free, and 9. They are got from a copy,
     /// because the Rust keeps partial changes.
     pub fn add(&mut self, point: &[u32], code: usize) -> bool {
-        let mut arguments = vec![code];
-        arguments.extend(point.iter().map(|w| *w as usize));
+        let row: Vec<usize> = point.iter().map(|w| *w as usize).collect();
         let from = self.free_for_a_row();
         let mut next = self.rust.clone();
         let added = catch_unwind(AssertUnwindSafe(|| next.add(&floats(point), Code(code as u8))));
@@ -126,33 +126,43 @@ impl Recorder {
                     let joined = self.opening.shingle_size > 1 && self.rust.free_start() == from + base;
                     answers.extend([index, label_index, joined as usize, self.rust.places()[index] as usize]);
                 }
-                self.line(1, &arguments, 0, &answers);
+                self.line(1, [code, 0], &row, 0, &answers);
             }
             Err(_) if self.opening.store_labels && self.rust.label_manager().is_empty() => {
-                self.line(1, &arguments, 8, &[]);
+                self.line(1, [code, 0], &row, 8, &[]);
             }
-            Err(_) => self.line(1, &arguments, 9, &[]),
+            Err(_) => self.line(1, [code, 0], &row, 9, &[]),
         }
         is_taken
     }
 
+    /// Of an index past the table, the Rust's error is document 01's 5; it leaves nothing behind.
     pub fn inc(&mut self, index: usize, label: usize) {
-        self.rust.inc(index, label).expect("an inc of what is in use");
-        self.line(2, &[index, label], 0, &[]);
+        let value = if self.rust.inc(index, label).is_ok() { 0 } else { 5 };
+        assert!(value == 0 || index >= self.rust.table_length());
+        self.line(2, [index, label], &[], value, &[]);
     }
 
-    /// The Rust's error is document 01's 5; it leaves nothing behind.
+    /// Of an index that is not in use, the Rust's error is document 01's 5; it leaves nothing behind.
     pub fn dec(&mut self, index: usize, label: usize) {
+        let is_free = index >= self.rust.table_length() || self.rust.point_count(index) == 0;
         let value = if self.rust.dec(index, label).is_ok() { 0 } else { 5 };
+        assert!((value == 5) == is_free);
         self.watch_slots();
-        self.line(3, &[index, label], value, &[]);
+        self.line(3, [index, label], &[], value, &[]);
     }
 
+    /// As for inc: where it is refused, all pairs but the last are skipped ones.
     pub fn adjust(&mut self, pairs: &[[usize; 4]]) {
         let list: Vec<_> = pairs.iter().map(|p| ((p[0], p[1]), (p[2], p[3]))).collect();
-        self.rust.adjust_count(&list).expect("pairs in use");
+        let taken = self.rust.adjust_count(&list).is_ok();
+        let before = pairs.len() - 1;
+        assert!(taken || pairs[..before].iter().all(|p| p[0] == NONE) && pairs[before][0] >= self.rust.table_length());
         self.watch_slots();
-        self.line(4, &pairs.concat(), 0, &[]);
+        match taken {
+            true => self.line(4, [0, 0], &pairs.concat(), 0, &[]),
+            false => self.line(4, [0, 0], &pairs.concat(), 5, &[before]),
+        }
     }
 
     fn watch_slots(&mut self) {
@@ -162,45 +172,41 @@ impl Recorder {
 
     pub fn compact(&mut self) {
         self.rust.compact().expect("compaction has no error here");
-        self.line(5, &[], 0, &[]);
+        self.line(5, [0, 0], &[], 0, &[]);
     }
 
     /// A reading: the Rust's one error has the given number in document 01.
     pub fn read<T>(
         &mut self,
         call: usize,
-        arguments: &[usize],
+        arguments: [usize; 2],
+        taken: &[usize],
         refusal: usize,
         made: impl Fn(&Store) -> reference::types::Result<T>,
         answers: impl Fn(T) -> Vec<usize>,
     ) {
         match made(&self.rust) {
-            Ok(answer) => self.line(call, arguments, 0, &answers(answer)),
-            Err(_) => self.line(call, arguments, refusal, &[]),
+            Ok(answer) => self.line(call, arguments, taken, 0, &answers(answer)),
+            Err(_) => self.line(call, arguments, taken, refusal, &[]),
         }
     }
 }
 
-/// The files' lines. Every list begins with an opening, and so does every file.
-pub fn recorded() -> Vec<String> {
+/// The file's lines. Every list begins with an opening.
+pub fn recorded() -> String {
     std::panic::set_hook(Box::new(|_| {}));
     let mut random = Random::new(5);
-    let mut files = vec![String::new()];
-    loop {
-        let mut recorder = Recorder::opened(any_opening(&mut random));
+    let mut lines = String::new();
+    for list in 0..LISTS {
+        let mut recorder = Recorder::opened(any_opening(list, &mut random));
         let mut chooser = Chooser::new(&mut random);
         for _ in 1..CALLS_EACH {
             if !recorder.ended {
                 chooser.call(&mut recorder, &mut random);
             }
         }
-        let last = files.last_mut().expect("a file");
-        if last.len() + recorder.lines.len() <= LARGEST_FILE {
-            *last += &recorder.lines;
-        } else if files.len() == FILES {
-            return files;
-        } else if recorder.lines.len() <= LARGEST_FILE {
-            files.push(recorder.lines);
-        }
+        lines += &recorder.lines;
     }
+    assert!(lines.len() <= LARGEST_FILE);
+    lines
 }

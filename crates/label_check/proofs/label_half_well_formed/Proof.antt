@@ -25,13 +25,13 @@ slice-aggregate-mark-free : tie.Need-slice-aggregate-mark-free
 slice-aggregate-mark-free c = search needs
 
 mark-free-requires : tie.Need-mark-free-requires
-mark-free-requires c κs = (omega arith, unmarked 1024)
+mark-free-requires c κs = (λ h. h, unmarked 1024)
 
 slice-aggregate-mark-free-2 : tie.Need-slice-aggregate-mark-free-2
 slice-aggregate-mark-free-2 c = search needs
 
 mark-free-requires-2 : tie.Need-mark-free-requires-2
-mark-free-requires-2 c κs = (omega arith, unmarked 1024)
+mark-free-requires-2 c κs = (λ h. h, unmarked 1024)
 
 slice-aggregate-labels-pass : tie.Need-slice-aggregate-labels-pass
 slice-aggregate-labels-pass c = search needs
@@ -53,7 +53,7 @@ slice-aggregate-slots-pass-2 c = search needs
 slots-pass-requires : tie.Need-slots-pass-requires
 slots-pass-requires c κs =
     let l = labelHalf (c .before .before .before .before .before .before .before .before .before .before .before .before .before .before .before .before .before .before .before .before .before .before .before .before .before .before .before .before .before .before .before .before .args .managers) (c .before .before .before .before .before .before .before .before .before .before .before .before .before .before .before .before .before .before .before .before .before .before .before .before .before .before .before .before .before .before .before .before .args .labels .now) (c .before .before .before .before .before .before .before .before .before .before .before .before .before .before .before .before .before .before .before .before .before .before .before .before .before .before .before .before .before .before .before .before .args .label-attributes .now) (c .before .before .before .before .before .before .before .before .before .before .before .before .before .before .before .before .before .before .before .before .before .before .before .before .before .before .before .before .before .before .before .before .args .label-count .now) (c .before .before .before .before .before .before .before .before .before .before .before .before .before .before .before .before .before .before .before .before .before .before .before .before .before .before .before .before .before .before .before .before .args .label-starts .now) (c .before .before .before .before .before .before .before .before .before .before .before .before .before .before .before .before .before .before .before .before .before .before .before .before .before .before .before .before .before .before .before .before .args .label-ends .now) (c .before .before .before .before .before .before .before .before .before .before .before .before .before .before .before .before .before .before .before .before .before .before .before .before .before .before .before .before .before .before .before .before .args .attributes .now) (c .before .before .before .before .before .before .before .before .before .before .before .before .before .before .before .before .before .before .before .before .before .before .before .before .before .before .before .before .before .before .before .before .args .attribute-count .now) (c .before .before .before .before .before .before .before .before .before .before .before .before .before .before .before .before .before .before .before .before .before .before .before .before .before .before .before .before .before .before .before .before .args .attribute-starts .now) (c .before .before .before .before .before .before .before .before .before .before .before .before .before .before .before .before .before .before .before .before .before .before .before .before .before .before .before .before .before .before .before .before .args .attribute-ends .now) in
-    slots-lent (c .before .before .before .before .before .before .before .before .before .before .before .before .before .before .before .before .before .before .before .before .before .before .before .before .before .before .before .before .before .before .before .before .args .classes .now) (c .before .before .before .before .before .before .before .before .before .before .before .before .before .before .before .before .before .before .before .before .before .before .before .before .before .before .before .before .before .before .before .before .args .capacity) l (c .before .before .before .before .before .before .before .before .before .before .mark-free2 .last .1 .1 .1 .0) (c .before .before .before .before .labels-pass .last .1 .1 .1 .1 .1 .1 .1 .0) (sym (c .before .before .before .before .before .before .before .before .before .before .before .before .before .mark-free .ensures .is) ∙ c .before .before .before .before .before .before .before .before .if4 .taken) (c .before .before .before .before .before .before .before .before .before .before .before .before .before .before .before .before .before .before .before .if1 .left) (sym (c .before .before .before .before .before .before .before .before .before .before .before .before .before .before .before .before .tables-lent .ensures) ∙ c .before .before .before .before .before .before .before .before .before .before .before .before .before .before .before .if3 .taken) (c .before .before .before .before .before .before .before .before .before .before .mark-free2 .kept .1 .1 .1 .0) (c .before .before .before .before .labels-pass .kept .1 .1 .1 .1 .1 .1 .1 .0)
+    slots-lent (c .before .before .before .before .before .before .before .before .before .before .before .before .before .before .before .before .before .before .before .before .before .before .before .before .before .before .before .before .before .before .before .before .args .classes .now) (c .before .before .before .before .before .before .before .before .before .before .before .before .before .before .before .before .before .before .before .before .before .before .before .before .before .before .before .before .before .before .before .before .args .capacity) l (c .before .before .before .before .before .before .before .before .before .before .mark-free2 .last .1 .1 .1 .0) (c .before .before .before .before .labels-pass .last .1 .1 .1 .1 .1 .1 .1 .0) _ (c .before .before .before .before .before .before .before .before .before .before .mark-free2 .ensures .marked (c .before .before .before .before .before .before .before .if5 .taken)) (c .before .before .before .before .before .before .before .before .before .before .mark-free2 .ensures .free-is (c .before .before .before .before .before .before .before .if5 .taken)) (c .before .before .before .before .before .before .before .before .before .before .before .before .before .before .before .before .before .if2 .left) (sym (c .before .before .before .before .before .before .before .before .before .before .before .before .before .mark-free .ensures .is) ∙ c .before .before .before .before .before .before .before .before .if4 .taken) (c .before .before .before .before .before .before .before .before .before .before .before .before .before .before .before .before .before .before .before .if1 .left) (sym (c .before .before .before .before .before .before .before .before .before .before .before .before .before .before .before .before .tables-lent .ensures) ∙ c .before .before .before .before .before .before .before .before .before .before .before .before .before .before .before .if3 .taken) (c .before .before .before .before .before .before .before .before .before .before .mark-free2 .kept .1 .1 .1 .0) (c .before .before .before .before .labels-pass .kept .1 .1 .1 .1 .1 .1 .1 .0)
 
 returns-3 : tie.Need-returns-3
 returns-3 c =

@@ -8,13 +8,13 @@ use crate::coverage::Coverage;
 use library::store::{Lent, Opening};
 use random::Random;
 use std::fs;
-use std::path::Path;
 
-const RECORDED: &str = concat!(env!("CARGO_MANIFEST_DIR"), "/../../crates/replay/data");
+const RECORDED: &str = concat!(env!("CARGO_MANIFEST_DIR"), "/../../crates/replay/data/store_calls");
 
 struct Line {
     call: usize,
-    arguments: Vec<usize>,
+    arguments: [usize; 2],
+    numbers: Vec<usize>,
     value: usize,
     answers: Vec<usize>,
     free_start: usize,
@@ -27,14 +27,16 @@ fn line(text: &str) -> Option<Line> {
         .map(|n| if n == "9999999999" { Some(NONE) } else { n.parse().ok() });
     let mut next = || numbers.next()?;
     let call = next()?;
+    let arguments = [next()?, next()?];
     let n = next()?;
-    let arguments = (0..n).map(|_| next()).collect::<Option<Vec<usize>>>()?;
+    let taken = (0..n).map(|_| next()).collect::<Option<Vec<usize>>>()?;
     let value = next()?;
     let m = next()?;
     let answers = (0..m).map(|_| next()).collect::<Option<Vec<usize>>>()?;
     let line = Line {
         call,
         arguments,
+        numbers: taken,
         value,
         answers,
         free_start: next()?,
@@ -59,55 +61,58 @@ fn opening(a: &[usize]) -> Opening {
     }
 }
 
-fn call_of(line: &Line, m: &Lent) -> Option<Call> {
-    let a = &line.arguments;
-    let dimensions = word(m, DIMENSIONS);
+fn call_of(line: &Line) -> Option<Call> {
+    let ([first, second], numbers) = (line.arguments, &line.numbers);
     Some(match line.call {
-        0 => Call::Open(opening(a)),
+        0 => Call::Open(opening(numbers)),
         1 => Call::Add {
-            point: words(&a[1..]),
-            label: a[0],
+            point: words(numbers),
+            label: first,
         },
-        2 => Call::Inc(a[0], a[1]),
-        3 => Call::Dec(a[0], a[1]),
-        4 => Call::Adjust(a.chunks(4).map(|p| [p[0], p[1], p[2], p[3]]).collect()),
+        2 => Call::Inc(first, second),
+        3 => Call::Dec(first, second),
+        4 => Call::Adjust(numbers.chunks(4).map(|p| [p[0], p[1], p[2], p[3]]).collect()),
         5 => Call::Compact,
         6 => Call::Copy {
-            index: a[0],
-            out: dimensions,
+            index: first,
+            out: second,
         },
-        7 => Call::Count(a[0]),
-        10 => Call::IsEqual {
-            index: a[0],
-            point: words(&a[1..]),
+        7 => Call::Count(first),
+        8 => Call::IsEqual {
+            index: first,
+            point: words(numbers),
         },
-        11 => Call::PointSum {
-            items: a.chunks(2).map(|p| [p[0], p[1]]).collect(),
-            out: dimensions,
+        9 => Call::PointSum {
+            items: numbers.chunks(2).map(|p| [p[0], p[1]]).collect(),
+            out: second,
         },
-        12 => Call::ShingledPoint {
-            point: words(a),
-            out: dimensions,
+        10 => Call::ShingledPoint {
+            point: words(numbers),
+            out: second,
         },
-        13 => Call::MissingIndices {
-            look_ahead: a[0],
-            values: a[1..].to_vec(),
-            out: a.len() - 1,
+        11 => Call::MissingIndices {
+            look_ahead: first,
+            values: numbers.clone(),
+            out: second,
         },
-        14 => Call::NextIndices {
-            look_ahead: a[0],
-            out: shape(m).base,
+        12 => Call::NextIndices {
+            look_ahead: first,
+            out: second,
         },
-        15 => Call::Label(a[0]),
-        16 => Call::Attribute(a[0]),
-        17 => Call::AttributeVec { label: a[0], out: 10 },
+        13 => Call::Label(first),
+        14 => Call::Attribute(first),
+        15 => Call::AttributeVec {
+            label: first,
+            out: second,
+        },
         _ => return None,
     })
 }
 
-/// The answers as a line has them: as many numbers as it has, or words, or a list.
-fn answers(got: &Returned, how_many: usize) -> Vec<usize> {
-    if got.value != 0 {
+/// The answers as a line has them: as many numbers as it has, or words, or a list. Where a call is refused, a line has only
+/// how many pairs of an adjust stand before.
+fn answers(got: &Returned, call: &Call, how_many: usize) -> Vec<usize> {
+    if got.value != 0 && !matches!(call, Call::Adjust(_)) {
         return Vec::new();
     }
     match (got.words.len(), got.list.len()) {
@@ -120,13 +125,13 @@ fn answers(got: &Returned, how_many: usize) -> Vec<usize> {
 fn replay_line(text: &str, sides: &mut Sides, coverage: &mut Coverage) -> Result<(), String> {
     let line = line(text).ok_or("no line of the record")?;
     if line.call == 0 {
-        *sides = Sides::over(rubbish_for(opening(&line.arguments), 1, &mut Random::new(4)));
+        *sides = Sides::over(rubbish_for(opening(&line.numbers), 1, &mut Random::new(4)));
     }
-    let call = call_of(&line, &sides.model).ok_or("no recorded call")?;
+    let call = call_of(&line).ok_or("no recorded call")?;
     let got = sides.step(&call, coverage)?;
     let live_number = live_indices(&sides.model).len();
     if got.value as usize != line.value
-        || answers(&got, line.answers.len()) != line.answers
+        || answers(&got, &call, line.answers.len()) != line.answers
         || word(&sides.model, FREE_START) != line.free_start
         || live_number != line.live_number
     {
@@ -140,18 +145,11 @@ fn replay_line(text: &str, sides: &mut Sides, coverage: &mut Coverage) -> Result
 }
 
 pub fn replayed(coverage: &mut Coverage) -> Result<(), String> {
-    let unread = |e: std::io::Error| format!("{RECORDED}: {e}");
-    let mut paths = Vec::new();
-    for file in fs::read_dir(Path::new(RECORDED)).map_err(unread)? {
-        paths.push(file.map_err(unread)?.path());
-    }
-    paths.sort();
-    for path in paths {
-        let mut sides = Sides::over(Lent::default());
-        for (k, text) in fs::read_to_string(&path).map_err(unread)?.lines().enumerate() {
-            replay_line(text, &mut sides, coverage)
-                .map_err(|found| format!("recorded: line {} of {}: {text}\n{found}", k + 1, path.display()))?;
-        }
+    let lines = fs::read_to_string(RECORDED).map_err(|e| format!("{RECORDED}: {e}"))?;
+    let mut sides = Sides::over(Lent::default());
+    for (k, text) in lines.lines().enumerate() {
+        replay_line(text, &mut sides, coverage)
+            .map_err(|found| format!("recorded: line {}: {text}\n{found}", k + 1))?;
     }
     Ok(())
 }

@@ -47,6 +47,9 @@ returns : tie.Need-returns Inv-loop μ-loop
 returns c =
     let e : c .before .loop .i ≡ c .before .before .args .capacity = omega arith in rw e at (c .before .loop .inv .1 .0)
 
+cast-result : tie.Need-cast-result Inv-loop μ-loop
+cast-result c = omega arith
+
 pub count-ones-spec : {M : Type 1} → statement M
 count-ones-spec =
     tie.close
@@ -60,4 +63,5 @@ count-ones-spec =
     add-i
     loop-less
     loop-again
+    cast-result
     returns)

@@ -3,7 +3,7 @@ use borrow.Author.Needs.{needs}
 use native.Mathlib.Omega.{arith}
 use mathlib.Core.Path.{sym, _∙_}
 use Rattle.interval_store_manager.specs.Sound.{allowed, lent}
-use Rattle.interval_store_manager.proofs.Checking.{checks, check-fails, not-allowed, not-lent, not-lent-used, not-swept}
+use Rattle.interval_store_manager.proofs.Checking.{checks, few-marked, check-fails, not-allowed, not-lent, not-lent-used, not-swept}
 use Rattle.interval_store_manager.proofs.check.mark_free.Statement.{statement}
 use Rattle.interval_store_manager.proofs.check.mark_free.Tie as tie
 
@@ -23,12 +23,17 @@ mark-intervals-requires c κs =
     let s = c .before .before .before .before .before .before .before .before .before .before .args in
     let most = allowed (s .m .capacity) a .1 in
     let used = lent (s .m .last_in_use) (s .starts .now) (s .ends .now) n in
-    (omega (arith, c .before .before .before .before .before .before .before .before .before .before .pre .0), (most, (used .0, (used .1, c .before .before .before .before .before .before .before .before .before .before .pre .1))))
+    (c .before .before .before .before .before .before .before .before .before .before .pre .0 most, (most, (used .0, (used .1, c .before .before .before .before .before .before .before .before .before .before .pre .1))))
 
-count-ones-requires : tie.Need-count-ones-requires
-count-ones-requires c κs =
-    let most = allowed (c .before .before .before .before .before .before .before .before .before .before .before .before .before .before .before .args .m .capacity) (sym (c .before .before .before .before .before .before .before .before .before .before .before .capacity-allowed .ensures) ∙ c .before .before .before .before .before .before .before .before .before .before .if1 .taken) .1 in
-    (most, omega (arith, c .before .before .before .before .before .before .before .before .before .before .before .before .before .before .before .pre .0, c .before .before .before .before .mark-intervals .kept .1 .1 .1 .1 .0))
+marked-number-requires : tie.Need-marked-number-requires
+marked-number-requires c κs =
+    let most = (allowed (c .before .before .before .before .before .before .before .before .before .before .before .before .before .before .before .args .m .capacity) (sym (c .before .before .before .before .before .before .before .before .before .before .before .capacity-allowed .ensures) ∙ c .before .before .before .before .before .before .before .before .before .before .if1 .taken) .1) in (
+      most,
+      (
+        omega (arith, c .before .before .before .before .before .before .before .before .before .before .before .before .before .before .before .pre .0 most, c .before .before .before .before .mark-intervals .kept .1 .1 .1 .1 .0),
+        few-marked (c .before .before .before .before .before .before .before .before .before .before .before .before .before .before .before .args .m .capacity) (c .before .before .before .before .before .before .before .before .before .before .before .before .before .before .before .args .m .last_in_use) (c .before .before .before .before .before .before .before .before .before .before .before .before .before .before .before .args .starts .now) (c .before .before .before .before .before .before .before .before .before .before .before .before .before .before .before .args .ends .now) _ _ (rw (c .before .if4 .taken) at (c .before .before .before .before .mark-intervals .ensures)),
+      ),
+    )
 
 same-length : tie.Need-same-length
 same-length c = search needs
@@ -36,7 +41,7 @@ same-length c = search needs
 returns : tie.Need-returns
 returns c =
     checks (c .before .before .before .before .before .before .before .before .before .before .before .before .before .before .before .before .args .m) (c .before .before .before .before .before .before .before .before .before .before .before .before .before .before .before .before .args .starts .now) (c .before .before .before .before .before .before .before .before .before .before .before .before .before .before .before .before .args .ends .now) _ _ _ (sym (c .before .before .before .before .before .before .before .before .before .before .before .before .capacity-allowed .ensures) ∙ c .before .before .before .before .before .before .before .before .before .before .before .if1 .taken) (sym (c .before .before .before .before .before .before .before .before .before .before .lent-enough .ensures) ∙ c .before .before .before .before .before .before .before .before .before .if2 .taken) (sym (c .before .before .before .before .before .before .before .before .lent-enough2 .ensures) ∙ c .before .before .before .before .before .before .before .if3 .taken)
-    (rw (c .before .before .if4 .taken) at (c .before .before .before .before .before .mark-intervals .ensures)) (c .count-ones .ensures)
+    (rw (c .before .before .if4 .taken) at (c .before .before .before .before .before .mark-intervals .ensures)) (c .marked-number .ensures)
 
 same-length-2 : tie.Need-same-length-2
 same-length-2 c = search needs
@@ -61,7 +66,7 @@ mark-free-spec =
     lent-enough-requires
     lent-enough-requires-2
     mark-intervals-requires
-    count-ones-requires
+    marked-number-requires
     same-length
     returns
     same-length-2

@@ -1,27 +1,28 @@
 -- The invariant: the places of the entries below i are marked, and whether they are distinct.
 use Prim.Native.Nat.{ℕ, _+_, _≤_, _<_, _-_}
 use native.Mathlib.Omega.{arith}
+use mathlib.Core.Bool.{Bool, not}
 use mathlib.Core.List.{List}
 use mathlib.Core.Path.{_≡_, refl, sym, _∙_, ap, subst⁻¹}
 use lib.ListN.{length, getD}
 use borrow.Author.Needs.{scaled-fits}
 use Rattle.terms.specs.Below.{everyBelow}
 use Rattle.store_definitions.specs.WellFormed.{placesDistinct}
-use Rattle.store_check.specs.Entries.{placeFresh, placeMarked}
+use Rattle.store_check.specs.Entries.{placeMet, placeMarked}
 use Rattle.terms.specs.Entries.{any-default}
-use Rattle.store_check.proofs.PlaceLaws.{PlacesMarked, none-marked, marks-more, distinct-more}
+use Rattle.store_check.proofs.PlaceLaws.{PlacesMarked, none-yet, marks-more, distinct-more}
 use Rattle.store_check.proofs.points.mark_places.Statement.{statement}
 use Rattle.store_check.proofs.points.mark_places.Tie as tie
 
 abbrev Inv-loop : tie.InvT-loop
-Inv-loop n location marks₀ ok₀ i₀ marks ok i = (i ≤ n) × ((length marks ≡ length marks₀) × ((ok ≡ placesDistinct i location) × PlacesMarked i location marks))
+Inv-loop n location marks₀ met₀ i₀ marks met i = (i ≤ n) × ((length marks ≡ length marks₀) × ((not met ≡ placesDistinct i location) × PlacesMarked i location marks))
 
 abbrev μ-loop : tie.MeasureT-loop
-μ-loop n location marks₀ ok₀ i₀ marks ok i = n - i
+μ-loop n location marks₀ met₀ i₀ marks met i = n - i
 
 loop-holds : tie.Need-loop-holds Inv-loop μ-loop
 unfolding placesDistinct everyBelow
-loop-holds c = (omega arith, (refl, (refl, none-marked (c .before .before .args .location .now) (c .before .before .args .marks .now) (c .before .before .pre .1 .0))))
+loop-holds c = (omega arith, (refl, (refl, none-yet (c .before .before .args .location .now) (c .before .before .args .marks .now) (c .before .before .pre .1 .0))))
 
 mul-mark-place : tie.Need-mul-mark-place Inv-loop μ-loop
 mul-mark-place c = scaled-fits _ _ _ (omega arith) (c .before .before .before .before .good .1 .0 .1)
@@ -49,8 +50,8 @@ loop-again c =
       (
         c .before .before .mark-place .kept .1 .0 ∙ v .1 .0,
         (
-          distinct-more (c .before .before .before .before .before .before .loop .i) (c .before .before .before .before .before .before .before .before .before .args .location .now) marks (c .before .before .before .before .before .before .loop .ok) (c .before .before .mark-place .result) (v .1 .1 .1) (v .1 .1 .0) (c .before .before .mark-place .ensures .0 ∙ ap (λ (p : ℕ). placeFresh p marks) same),
-          subst⁻¹ (λ (m : List ℕ). PlacesMarked (c .before .before .before .before .before .before .loop .i + 1) (c .before .before .before .before .before .before .before .before .before .args .location .now) m) after (marks-more (c .before .before .before .before .before .before .loop .i) (c .before .before .before .before .before .before .before .before .before .args .location .now) marks (v .1 .1 .1) fits),
+          distinct-more (c .before .before .before .before .before .before .loop .i) (c .before .before .before .before .before .before .before .before .before .args .location .now) marks (c .before .before .before .before .before .before .loop .met) (c .before .before .mark-place .result) (v .1 .1 .1) (v .1 .1 .0) (c .before .before .mark-place .ensures .0 ∙ ap (λ (p : ℕ). placeMet p marks) same),
+          subst⁻¹ (λ (m : List Bool). PlacesMarked (c .before .before .before .before .before .before .loop .i + 1) (c .before .before .before .before .before .before .before .before .before .args .location .now) m) after (marks-more (c .before .before .before .before .before .before .loop .i) (c .before .before .before .before .before .before .before .before .before .args .location .now) marks (v .1 .1 .1) fits),
         ),
       ),
     )

@@ -1,0 +1,133 @@
+-- A store comes back from its record, a record from its store, and an illegal record holds no store.
+use Prim.Native.Nat.{ℕ, zero, suc, _≤_, _<_}
+use native.Mathlib.Omega.{arith}
+use mathlib.Core.Bool.{Bool, true, false, cond, _&&_}
+use mathlib.Core.List.{List, [], _∷_, _++_}
+use mathlib.Core.Path.{_≡_, refl}
+use lib.Dec.{leb, ltb, eqb}
+use lib.ListN.{length, getD, drop}
+use lib.Seq.{sets, sets-eq, set-getD}
+use borrow.Author.Tests.{le-leb, lt-leb, lt-ltb, leb-true, ltb-true}
+use mir.Val.{boolByte}
+use Rattle.terms.specs.Below.{one, both}
+use Rattle.store_definitions.specs.declared.Store.{Store}
+use Rattle.store_definitions.specs.Memory.{Memory, pointStore}
+use Rattle.store_definitions.specs.Bounds.{boundsHold}
+use Rattle.store_definitions.specs.WellFormed.{wellFormed}
+use Rattle.point_store_c.specs.ExportedLaws.{cast-one}
+use Rattle.point_store_c.specs.Records.{storeWords, storeOut, legalRecord, storeRead, noStore, storeIn, recorded}
+
+-- the first fifteen words are the store's, and a longer record keeps its rest
+pub out-words : (words : List ℕ) (s : Store) → 15 ≤ length words → storeOut words s ≡ storeWords s ++ drop 15 words
+unfolding storeOut
+out-words words s l = sets-eq (storeWords s) words 0 l
+
+-- the words as the code stores them, a flag by its cast
+abbrev pub castWords : Store → List ℕ
+castWords s =
+    s .dimensions ∷ s .«shingle_size» ∷ s .capacity
+    ∷ boolByte (s .«internal_shingling») ∷ boolByte (s .«internal_rotation») ∷ boolByte (s .«store_labels»)
+    ∷ s .«store_length» ∷ s .«start_free_region» ∷ s .«next_sequence_index»
+    ∷ s .«index_manager» .capacity ∷ s .«index_manager» .last_in_use
+    ∷ s .«label_manager» .capacity ∷ s .«label_manager» .last_in_use
+    ∷ s .«attribute_manager» .capacity ∷ s .«attribute_manager» .last_in_use
+    ∷ []
+
+pub cast-out : (words : List ℕ) (s : Store) → sets words 0 (castWords s) ≡ storeOut words s
+unfolding storeOut
+cast-out words s = rw (cast-one (s .«internal_shingling»), cast-one (s .«internal_rotation»), cast-one (s .«store_labels»))
+
+flag-small : (b : Bool) → ltb (one b) 2 ≡ true
+flag-small true = refl
+flag-small false = refl
+
+flag-back : (b : Bool) → eqb (one b) 1 ≡ b
+flag-back true = refl
+flag-back false = refl
+
+written-legal : (s : Store) (rest : List ℕ) → s .«next_sequence_index» < 4294967296 → legalRecord (storeWords s ++ rest) ≡ true
+unfolding legalRecord
+written-legal s rest q =
+    rw (le-leb 15 (length (storeWords s ++ rest)) (omega arith), flag-small (s .«internal_shingling»), flag-small (s .«internal_rotation»), flag-small (s .«store_labels»), lt-ltb (s .«next_sequence_index») 4294967296 q)
+
+written-read : (s : Store) (rest : List ℕ) → storeRead (storeWords s ++ rest) ≡ s
+written-read s rest = rw (flag-back (s .«internal_shingling»), flag-back (s .«internal_rotation»), flag-back (s .«store_labels»))
+
+-- a store written to a record that is long enough is read again
+pub in-out : (words : List ℕ) (s : Store) → 15 ≤ length words → s .«next_sequence_index» < 4294967296 → storeIn (storeOut words s) ≡ s
+unfolding storeIn
+in-out words s l q = rw (out-words words s l, written-legal s (drop 15 words) q) (written-read s (drop 15 words))
+
+-- what the code's tests show
+pub short-illegal : (words : List ℕ) → length words < 15 → false ≡ legalRecord words
+unfolding legalRecord
+short-illegal words l = rw (lt-leb 15 (length words) l)
+
+pub long-legal : (words : List ℕ) → 15 ≤ length words → (ltb (getD words 3 0) 2 && (ltb (getD words 4 0) 2 && (ltb (getD words 5 0) 2 && ltb (getD words 8 0) 4294967296))) ≡ legalRecord words
+unfolding legalRecord
+long-legal words l = rw (le-leb 15 (length words) l)
+
+pub record Legal (words : List ℕ) : Type 0 where
+  pub long : 15 ≤ length words
+  pub shingling : getD words 3 0 < 2
+  pub rotation : getD words 4 0 < 2
+  pub labels : getD words 5 0 < 2
+  pub sequence : getD words 8 0 < 4294967296
+
+pub legal : (words : List ℕ) → legalRecord words ≡ true → Legal words
+unfolding legalRecord
+legal words e =
+    let p = both (leb 15 (length words)) _ e in
+    let q = both (ltb (getD words 3 0) 2) _ (p .1) in
+    let r = both (ltb (getD words 4 0) 2) _ (q .1) in
+    let t = both (ltb (getD words 5 0) 2) (ltb (getD words 8 0) 4294967296) (r .1) in
+    record {
+      long = leb-true 15 (length words) (p .0);
+      shingling = ltb-true (getD words 3 0) 2 (q .0);
+      rotation = ltb-true (getD words 4 0) 2 (r .0);
+      labels = ltb-true (getD words 5 0) 2 (t .0);
+      sequence = ltb-true (getD words 8 0) 4294967296 (t .1);
+    }
+
+module _ (words : List ℕ) where
+  pub legal-read : legalRecord words ≡ true → storeRead words ≡ storeIn words
+  unfolding storeIn
+  legal-read e = rw e
+
+  pub illegal-read : legalRecord words ≡ false → noStore ≡ storeIn words
+  unfolding storeIn
+  illegal-read e = rw e
+
+  pub legal-recorded : (s : Store) → legalRecord words ≡ true → storeOut words s ≡ recorded words s
+  unfolding recorded
+  legal-recorded s e = rw e
+
+  pub illegal-recorded : (s : Store) → legalRecord words ≡ false → words ≡ recorded words s
+  unfolding recorded
+  illegal-recorded s e = rw e
+
+flag-word : (n : ℕ) → n < 2 → one (eqb n 1) ≡ n
+flag-word zero l = refl
+flag-word (suc zero) l = refl
+flag-word (suc (suc n)) l = absurd (omega arith)
+
+-- a legal record is what its own store writes
+pub out-in : (words : List ℕ) → legalRecord words ≡ true → storeOut words (storeIn words) ≡ words
+unfolding storeIn storeOut
+out-in words e =
+    let l = legal words e in
+    rw (e, flag-word (getD words 3 0) (l .shingling), flag-word (getD words 4 0) (l .rotation), flag-word (getD words 5 0) (l .labels), set-getD words 0 0, set-getD words 1 0, set-getD words 2 0, set-getD words 3 0, set-getD words 4 0, set-getD words 5 0, set-getD words 6 0, set-getD words 7 0, set-getD words 8 0, set-getD words 9 0, set-getD words 10 0, set-getD words 11 0, set-getD words 12 0, set-getD words 13 0, set-getD words 14 0)
+
+-- a call that leaves the store leaves the record
+pub record-kept : (words : List ℕ) → recorded words (storeIn words) ≡ words
+unfolding recorded
+record-kept words = go (legalRecord words) refl
+  where
+    go : (b : Bool) → legalRecord words ≡ b → cond b (storeOut words (storeIn words)) words ≡ words
+    go true e = out-in words e
+    go false e = refl
+
+-- an illegal record holds an ill-formed store, which every call refuses with 1
+pub illegal-ill-formed : (words : List ℕ) (m : Memory ℕ) → legalRecord words ≡ false → wellFormed (pointStore (storeIn words) m) ≡ false
+unfolding storeIn wellFormed boundsHold
+illegal-ill-formed words m e = rw e refl

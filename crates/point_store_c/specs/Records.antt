@@ -1,0 +1,74 @@
+-- A store's record as a C caller lends it: a slice of words, of which a longer one keeps its rest.
+use Prim.Native.Nat.{ℕ}
+use mathlib.Core.Bool.{Bool, false, cond, _&&_}
+use mathlib.Core.List.{List, [], _∷_}
+use lib.Dec.{leb, ltb, eqb}
+use lib.ListN.{length, getD}
+use lib.Seq.{sets}
+use Rattle.terms.specs.Below.{one}
+use Rattle.interval_store_manager.specs.Calls.{manager}
+use Rattle.store_definitions.specs.declared.Store.{Store}
+
+-- the words of a store, from word 0 on; a flag is 0 or 1
+abbrev pub storeWords : Store → List ℕ
+storeWords s =
+    s .dimensions ∷ s .«shingle_size» ∷ s .capacity
+    ∷ one (s .«internal_shingling») ∷ one (s .«internal_rotation») ∷ one (s .«store_labels»)
+    ∷ s .«store_length» ∷ s .«start_free_region» ∷ s .«next_sequence_index»
+    ∷ s .«index_manager» .capacity ∷ s .«index_manager» .last_in_use
+    ∷ s .«label_manager» .capacity ∷ s .«label_manager» .last_in_use
+    ∷ s .«attribute_manager» .capacity ∷ s .«attribute_manager» .last_in_use
+    ∷ []
+
+-- the record after a store was written to it
+unfoldable pub storeOut : List ℕ → Store → List ℕ
+storeOut words s = sets words 0 (storeWords s)
+
+-- the record has all its words, each flag is 0 or 1 and the sequence number has 32 bits
+unfoldable pub legalRecord : List ℕ → Bool
+legalRecord words =
+    leb 15 (length words)
+    && (ltb (getD words 3 0) 2 && (ltb (getD words 4 0) 2 && (ltb (getD words 5 0) 2 && ltb (getD words 8 0) 4294967296)))
+
+abbrev pub storeRead : List ℕ → Store
+storeRead words =
+    record {
+      dimensions = getD words 0 0;
+      «shingle_size» = getD words 1 0;
+      capacity = getD words 2 0;
+      «internal_shingling» = eqb (getD words 3 0) 1;
+      «internal_rotation» = eqb (getD words 4 0) 1;
+      «store_labels» = eqb (getD words 5 0) 1;
+      «store_length» = getD words 6 0;
+      «start_free_region» = getD words 7 0;
+      «next_sequence_index» = getD words 8 0;
+      «index_manager» = manager (getD words 9 0) (getD words 10 0);
+      «label_manager» = manager (getD words 11 0) (getD words 12 0);
+      «attribute_manager» = manager (getD words 13 0) (getD words 14 0);
+    }
+
+-- what an illegal record is read as: a store of zeros, which is ill-formed
+abbrev pub noStore : Store
+noStore =
+    record {
+      dimensions = 0;
+      «shingle_size» = 0;
+      capacity = 0;
+      «internal_shingling» = false;
+      «internal_rotation» = false;
+      «store_labels» = false;
+      «store_length» = 0;
+      «start_free_region» = 0;
+      «next_sequence_index» = 0;
+      «index_manager» = manager 0 0;
+      «label_manager» = manager 0 0;
+      «attribute_manager» = manager 0 0;
+    }
+
+-- the store that a record holds
+unfoldable pub storeIn : List ℕ → Store
+storeIn words = cond (legalRecord words) (storeRead words) noStore
+
+-- the record after a call that leaves the store s; an illegal one is left as it was
+unfoldable pub recorded : List ℕ → Store → List ℕ
+recorded words s = cond (legalRecord words) (storeOut words s) words

@@ -1,0 +1,113 @@
+// A store's record as a lent slice of words: what stands in each, and which words no store has.
+ghost use mathlib.Core.Path.{_≡_};
+ghost use Prim.Native.Nat.{_≤_, _<_};
+ghost use lib.ListN.{length, getD};
+ghost use Rattle.point_store_c.specs.Records.{storeOut, legalRecord, storeRead, noStore, storeIn, recorded};
+use interval_store_manager::IntervalStoreManager;
+use store_definitions::Store;
+
+pub const RECORD_WORDS: usize = 15;
+
+// Whether the record has its words, each flag is 0 or 1 and the sequence number has 32 bits.
+fn record_legal(words: &[u64]) -> bool
+    ensures { λ r. ⌜ r ≡ legalRecord (now (words .entry)) ⌝ }
+{
+    if words.len() < RECORD_WORDS {
+        return false;
+    }
+    (words[3] < 2) & ((words[4] < 2) & ((words[5] < 2) & (words[8] < 0x1_0000_0000)))
+}
+
+// What an illegal record holds: a store of zeros, which every call refuses as ill-formed.
+fn no_store() -> Store
+    ensures { λ r. ⌜ r ≡ noStore ⌝ }
+{
+    let none = IntervalStoreManager {
+        capacity: 0,
+        last_in_use: 0,
+    };
+    Store {
+        dimensions: 0,
+        shingle_size: 0,
+        capacity: 0,
+        internal_shingling: false,
+        internal_rotation: false,
+        store_labels: false,
+        store_length: 0,
+        start_free_region: 0,
+        next_sequence_index: 0,
+        index_manager: none,
+        label_manager: none,
+        attribute_manager: none,
+    }
+}
+
+// The store that a record holds.
+pub fn store_in(words: &[u64]) -> Store
+    ensures { λ r. ⌜ r ≡ storeIn (now (words .entry)) ⌝ }
+{
+    if record_legal(words) {
+        return store_read(words);
+    }
+    no_store()
+}
+
+// Of a legal record.
+fn store_read(words: &[u64]) -> Store
+    requires { ⌜ (15 ≤ length (now words)) × (getD (now words) 8 0 < 4294967296) ⌝ }
+    ensures { λ r. ⌜ r ≡ storeRead (now (words .entry)) ⌝ }
+{
+    Store {
+        dimensions: words[0] as usize,
+        shingle_size: words[1] as usize,
+        capacity: words[2] as usize,
+        internal_shingling: words[3] == 1,
+        internal_rotation: words[4] == 1,
+        store_labels: words[5] == 1,
+        store_length: words[6] as usize,
+        start_free_region: words[7] as usize,
+        next_sequence_index: words[8] as u32,
+        index_manager: IntervalStoreManager {
+            capacity: words[9] as usize,
+            last_in_use: words[10] as usize,
+        },
+        label_manager: IntervalStoreManager {
+            capacity: words[11] as usize,
+            last_in_use: words[12] as usize,
+        },
+        attribute_manager: IntervalStoreManager {
+            capacity: words[13] as usize,
+            last_in_use: words[14] as usize,
+        },
+    }
+}
+
+pub fn record_write(words: &mut [u64], s: Store)
+    requires { ⌜ 15 ≤ length (now words) ⌝ }
+    ensures { λ _. ⌜ now (words .exit) ≡ storeOut (now (words .entry)) s ⌝ }
+{
+    words[0] = s.dimensions as u64;
+    words[1] = s.shingle_size as u64;
+    words[2] = s.capacity as u64;
+    words[3] = s.internal_shingling as u64;
+    words[4] = s.internal_rotation as u64;
+    words[5] = s.store_labels as u64;
+    words[6] = s.store_length as u64;
+    words[7] = s.start_free_region as u64;
+    words[8] = s.next_sequence_index as u64;
+    words[9] = s.index_manager.capacity as u64;
+    words[10] = s.index_manager.last_in_use as u64;
+    words[11] = s.label_manager.capacity as u64;
+    words[12] = s.label_manager.last_in_use as u64;
+    words[13] = s.attribute_manager.capacity as u64;
+    words[14] = s.attribute_manager.last_in_use as u64;
+}
+
+// An illegal record is left as it was.
+pub fn store_out(words: &mut [u64], s: Store)
+    ensures { λ _. ⌜ now (words .exit) ≡ recorded (now (words .entry)) s ⌝ }
+{
+    if record_legal(words) {
+        record_write(words, s);
+    }
+}

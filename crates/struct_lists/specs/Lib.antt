@@ -1,0 +1,5 @@
+pub mod Reborrow
+pub mod Slices
+pub mod Shared
+pub mod Locals
+pub mod Branches

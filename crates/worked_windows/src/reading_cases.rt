@@ -1,0 +1,155 @@
+// The other readings, of small stores: what is compared and added up of rows, and what is read of labels.
+use crate::cases::add_two;
+use crate::cases::opened;
+use crate::print::added;
+use crate::print::answer;
+use crate::print::done;
+use crate::print::equality;
+use crate::print::free;
+use crate::print::number;
+use crate::print::row;
+use crate::print::text;
+use crate::print::vector;
+use crate::print::word;
+use crate::readings::sum_rows;
+use crate::readings::vector_of;
+use block::Block;
+use block::add_row;
+use block::class_of;
+use block::code_of;
+use block::equal_point;
+use block::open_block;
+use store_definitions::Shape;
+
+// The words of −0.0 and of a NaN.
+const MINUS_ZERO: u32 = 0x8000_0000;
+
+const NAN: u32 = 0x7fc0_0000;
+
+fn compared(b: Block, i: usize, point: &[u32]) {
+    equality(equal_point(b, i, point));
+    text(b"\n");
+}
+
+// A line of a comparison with a whole row.
+fn compared_four(b: Block, i: usize, x: usize, y: usize, z: usize, w: usize) {
+    let point = [word(x), word(y), word(z), word(w)];
+    text(b"  is_equal ");
+    number(i);
+    text(b", ");
+    row(point);
+    text(b": ");
+    compared(b, i, &point[..]);
+}
+
+// The sum of two rows.
+fn summed(b: Block, i: usize, v: usize, j: usize, w: usize) {
+    let items = [[i, v], [j, w]];
+    text(b"  point_sum ");
+    number(i);
+    text(b" x ");
+    number(v);
+    text(b", ");
+    number(j);
+    text(b" x ");
+    number(w);
+    text(b": ");
+    let r = sum_rows(b, &items[..]);
+    let d = r.answer;
+    done(d);
+    text(b", ");
+    let given = r.row;
+    row(given);
+    text(b"\n");
+}
+
+// A sum reads rows as they are stored; a comparison turns them.
+pub fn rows_read() {
+    text(b"is_equal and point_sum, rotating\n");
+    let b = add_two(
+        add_two(add_two(opened(true, true, 10, 5), 1, 2), 3, 4),
+        5,
+        6,
+    );
+    compared_four(b, 1, 5, 6, 3, 4);
+    compared_four(b, 1, 3, 4, 5, 6);
+    compared_four(b, 2, 5, 6, 3, 4);
+    summed(b, 0, 1, 1, 1);
+    summed(b, 0, 3, 1, 0);
+    summed(b, 0, 16777216, 1, 16777217);
+    summed(b, 0, 16777217, 2, 1);
+    summed(b, 2, 16777217, 0, 1);
+}
+
+fn add_nan(b: Block) -> Block {
+    let point = [NAN, word(5)];
+    let r = add_row(b, &point[..], 0);
+    text(b"  add NaN 5: ");
+    let a = r.answer;
+    added(a);
+    let after = r.block;
+    free(after.store.start_free_region);
+    after
+}
+
+// Equality is float `==`: the zeros are equal, a NaN equals nothing.
+pub fn zeros_and_nans() {
+    text(b"is_equal: zeros, NaNs and lengths\n");
+    let b = add_two(add_two(opened(true, false, 10, 5), 0, 1), 2, 3);
+    let zero = [MINUS_ZERO, word(1), word(2), word(3)];
+    text(b"  is_equal 0, -0 1 2 3: ");
+    compared(b, 0, &zero[..]);
+    let c = add_nan(b);
+    let nan = [word(2), word(3), NAN, word(5)];
+    text(b"  is_equal 1, 2 3 NaN 5: ");
+    compared(c, 1, &nan[..]);
+    text(b"  is_equal 1, three floats: ");
+    compared(c, 1, &nan[..3]);
+    text(b"  is_equal 2, three floats: ");
+    compared(c, 2, &nan[..3]);
+}
+
+// A store with two labels: codes 23 and 5, of the classes 9 and 2.
+fn labelled() -> Block {
+    let shape = Shape {
+        dimensions: 2,
+        shingle_size: 1,
+        capacity: 3,
+        initial_capacity: 3,
+        internal_shingling: false,
+        internal_rotation: false,
+        store_labels: true,
+    };
+    let opened = open_block(shape);
+    let point = [word(1), word(2)];
+    let first = add_row(opened.block, &point[..], 23);
+    let second = add_row(first.block, &point[..], 5);
+    let b = second.block;
+    b
+}
+
+fn label_read(b: Block, i: usize) {
+    text(b"  label ");
+    number(i);
+    text(b": ");
+    answer(code_of(b, i));
+    text(b"; attribute: ");
+    answer(class_of(b, i));
+    text(b"; attribute_vec: ");
+    let r = vector_of(b, i);
+    let d = r.answer;
+    done(d);
+    text(b",");
+    let given = r.floats;
+    vector(&given[..]);
+    text(b"\n");
+}
+
+// The vector's 1.0 stands at the slot, not at the class.
+pub fn labels_read() {
+    text(b"label, attribute and attribute_vec: codes 23 and 5\n");
+    let b = labelled();
+    label_read(b, 0);
+    label_read(b, 1);
+    label_read(b, 2);
+}
