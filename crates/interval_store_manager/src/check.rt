@@ -39,11 +39,16 @@ pub fn lent_enough(n: usize, starts: &[u16], ends: &[u16]) -> bool
     n <= ends.len()
 }
 
-// Marks the indices from `from` up to `to`.
+// Marks the indices from `from` up to `to`. A single one is marked by itself: the loop is compiled to a call, and a stack of many
+// intervals has mostly such.
 fn fill_ones(marks: &mut [u8], from: usize, to: usize)
     requires { ⌜ (from ≤ to) × (to ≤ length (now marks)) ⌝ }
     ensures { λ r. ⌜ ((k : ℕ) → getD (now (marks .exit)) k 0 ≡ filled (now (marks .entry)) from to k) ⌝ }
 {
+    if to - from == 1 {
+        marks[from] = 1;
+        return;
+    }
     let mut i = from;
     while i < to {
         marks[i] = 1;
