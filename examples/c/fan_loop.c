@@ -56,6 +56,10 @@ int main(void) {
     struct ps_added kept[sizeof readings / sizeof readings[0]];
     size_t live = 0, oldest = 0;
     uint64_t free_start, number, pairs_before;
+    uint8_t name[PS_NAME_LENGTH];
+
+    accepted(ps_name(name, PS_NAME_LENGTH), "name");
+    printf("%.*s\n", PS_NAME_LENGTH, (const char *)name);
 
     s.memory = lent;
     accepted(ps_store_open(&s, &shape), "open");
