@@ -76,7 +76,9 @@ static inline const char *ps_refusal_text(uint64_t number) {
 /* The floats of attribute_vec. */
 #define PS_ATTRIBUTE_FLOATS 10
 
-/* Words of a store's record and of a manager's. */
+/* Words of a store's record and of a manager's. A store's are, in order: dimensions, shingle size, capacity, the flags of internal
+ * shingling, rotation and labels, store length, free start, sequence; then capacity and entries in use of the managers of indices, of
+ * label indices and of attribute slots. A manager's are its capacity and its entries in use. */
 #define PS_RECORD_WORDS 15
 #define PS_MANAGER_WORDS 2
 
