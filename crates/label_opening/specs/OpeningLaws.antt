@@ -1,8 +1,8 @@
 -- Laws of opening: the managers that new makes are those of the opened tables.
-use Prim.Native.Nat.{ℕ, _-_, _≤_, _<_}
+use Prim.Native.Nat.{ℕ, _-_, _≤_}
 use native.Mathlib.Omega.{arith}
 use mathlib.Core.List.{List}
-use mathlib.Core.Path.{_≡_, sym, _∙_, ap}
+use mathlib.Core.Path.{_≡_, _∙_, ap}
 use lib.ListN.{length, set}
 use Rattle.interval_store_manager.specs.declared.IntervalStoreManager.{IntervalStoreManager}
 use Rattle.interval_store_manager.specs.Sound.{allowed-make, lent-make}

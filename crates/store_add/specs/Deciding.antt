@@ -6,7 +6,6 @@ use mathlib.Core.Path.{_≡_, refl}
 use lib.ListN.{length}
 use lib.Dec.{eqb}
 use Rattle.terms.specs.Refusals.{number}
-use Rattle.interval_store_manager.specs.Calls.{Decided, go, refuse}
 use Rattle.labels.specs.Decisions.{codeDecided, roomDecided}
 use Rattle.store_definitions.specs.declared.Store.{Store}
 use Rattle.store_definitions.specs.Memory.{PointStore}

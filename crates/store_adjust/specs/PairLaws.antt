@@ -19,7 +19,7 @@ use Rattle.terms.specs.Entries.{stored}
 use Rattle.labels.specs.Decisions.{none, inUse, incDecided, decDecided}
 use Rattle.labels.specs.Labels.{labelRaised}
 use Rattle.store_definitions.specs.Memory.{PointStore, pointStore}
-use Rattle.store_definitions.specs.Answers.{done, refused, Outcome, outcome}
+use Rattle.store_definitions.specs.Answers.{done, refused, outcome}
 use Rattle.store_definitions.specs.Parts.{pointTable, labelHalf, withPoints, withLabels}
 use Rattle.store_definitions.specs.Decisions.{andThen, live, touchDecided, carriedOut}
 use Rattle.store_definitions.specs.Counting.{Pairing, incTest, decTest, incremented, decremented, pairDecided, pairDone}

@@ -6,7 +6,6 @@ use mathlib.Core.List.{List, [], _∷_, _++_}
 use mathlib.Core.Path.{_≡_, refl}
 use lib.ListN.{take, replicate}
 use lib.Dec.{eqb}
-use Rattle.placement.specs.declared.Laid.{Laid}
 use Rattle.placement.specs.declared.Laid.the-variants.{Whole, Joined}
 use Rattle.terms.specs.Below.{one, everyBelow}
 use Rattle.terms.specs.Rows.{allEqual}

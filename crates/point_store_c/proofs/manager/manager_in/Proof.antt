@@ -1,5 +1,4 @@
 -- A short record is read as none, a longer one by its two words.
-use mathlib.Core.Path.{refl}
 use Rattle.point_store_c.specs.ExportedLaws.{manager-short, manager-long}
 use borrow.Author.Needs.{needs}
 use Rattle.point_store_c.proofs.manager.manager_in.Statement.{statement}
