@@ -42,6 +42,23 @@ pub struct Opening {
     pub store_labels: usize,
 }
 
+impl Opening {
+    /// A shape (dimensions, shingle size, capacity, starting capacity) with internal shingling, rotation and labels as the three
+    /// lowest bits of `flags` have them.
+    pub fn with_flags(shape: [usize; 4], flags: usize) -> Self {
+        let [dimensions, shingle_size, capacity, initial_capacity] = shape;
+        Opening {
+            dimensions,
+            shingle_size,
+            capacity,
+            initial_capacity,
+            internal_shingling: flags & 1,
+            internal_rotation: flags >> 1 & 1,
+            store_labels: flags >> 2 & 1,
+        }
+    }
+}
+
 macro_rules! prototypes {
     ($($name:ident($($argument:ident: $of:ty),*);)*) => {
         extern "C" {

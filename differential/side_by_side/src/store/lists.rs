@@ -85,17 +85,12 @@ const CORNERS: [[usize; 4]; 8] = [
 /// A list at each corner with all flags.
 pub fn corner_lists(seed: u64, coverage: &mut Coverage) -> Result<(), String> {
     let mut random = Random::new(seed + 100);
-    for [dimensions, shingle_size, capacity, initial_capacity] in CORNERS {
+    for shape in CORNERS {
         for flags in 0..8 {
-            let opening = Opening {
-                dimensions,
-                shingle_size,
-                capacity,
-                initial_capacity,
-                internal_shingling: flags & 1,
-                internal_rotation: (flags >> 1 & 1) * !mutant::is("harness-never-rotates") as usize,
-                store_labels: flags >> 2,
-            };
+            let mut opening = Opening::with_flags(shape, flags);
+            if mutant::is("harness-never-rotates") {
+                opening.internal_rotation = 0;
+            }
             list_from(opening, 300, &mut random, coverage)?;
         }
     }

@@ -132,17 +132,9 @@ fn lists_from(sides: &Sides, left: usize, coverage: &mut Coverage) -> Result<(),
 /// With labels there are more calls to choose from, so the lists are shorter by one.
 pub fn every_short_list(length: usize, coverage: &mut Coverage) -> Result<(), String> {
     let mut random = Random::new(6);
-    for [dimensions, shingle_size, capacity, initial_capacity] in SHAPES {
+    for shape in SHAPES {
         for flags in 0..8 {
-            let opening = Opening {
-                dimensions,
-                shingle_size,
-                capacity,
-                initial_capacity,
-                internal_shingling: flags & 1,
-                internal_rotation: flags >> 1 & 1,
-                store_labels: flags >> 2 & 1,
-            };
+            let opening = Opening::with_flags(shape, flags);
             let memory = rubbish_for(opening, 1, &mut random);
             let sides = Sides::opened(memory, opening, coverage)?;
             lists_from(&sides, length - opening.store_labels, coverage)?;
