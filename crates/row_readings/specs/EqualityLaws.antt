@@ -35,14 +35,10 @@ module _ {E : Type 0} (eq : E → E → Bool) where
       answers (copyAllowed s counts i (length point))
       (allEqual eq (copied (s .«internal_rotation») (s .dimensions) (baseOf s) (getD location i 65535) elements) point)
 
-  -- a well-formed store answers so, any other refuses
+  -- a well-formed store answers so
   pub equality-checked : (p : PointStore E) (i : ℕ) (point : List E) → wellFormed p ≡ true → checkedEquality (p .header) (p .memory .store) (p .memory .referenceCount) (p .memory .location) i point ≡ isEqualSpec eq p i point
   unfolding checkedEquality isEqualSpec copyDecided copyAllowed copyOf formDecided touchDecided live
   equality-checked p i point e = rw e
-
-  pub equality-ill : (p : PointStore E) (i : ℕ) (point : List E) → wellFormed p ≡ false → refused 1 ≡ isEqualSpec eq p i point
-  unfolding isEqualSpec copyDecided formDecided
-  equality-ill p i point e = rw e
 
   -- the ways out
   module _ (s : Store) (elements : List E) (counts location : List ℕ) (i : ℕ) (point : List E) where

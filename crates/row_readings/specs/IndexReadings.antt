@@ -37,23 +37,15 @@ checkedMissing s lookAhead values out =
 abbrev pub checkedNext : Store → ℕ → (out : List ℕ) → Output ℕ
 checkedNext s lookAhead out = checkedMissing s lookAhead (upTo (baseOf s) []) out
 
--- a well-formed store lists so, any other refuses
+-- a well-formed store lists so
 module _ {E : Type 0} (p : PointStore E) (lookAhead : ℕ) where
   pub missing-checked : (values out : List ℕ) → wellFormed p ≡ true → checkedMissing (p .header) lookAhead values out ≡ missingIndicesSpec p lookAhead values out
   unfolding checkedMissing listAllowed missingIndicesSpec indexListDecided formDecided
   missing-checked values out e = rw e
 
-  pub missing-ill : (values out : List ℕ) → wellFormed p ≡ false → output (refused 1) out ≡ missingIndicesSpec p lookAhead values out
-  unfolding missingIndicesSpec indexListDecided formDecided
-  missing-ill values out e = rw e
-
   pub next-checked : (out : List ℕ) → wellFormed p ≡ true → checkedNext (p .header) lookAhead out ≡ nextIndicesSpec p lookAhead out
   unfolding nextIndicesSpec
   next-checked out e = missing-checked (upTo (baseOf (p .header)) []) out e
-
-  pub next-ill : (out : List ℕ) → wellFormed p ≡ false → output (refused 1) out ≡ nextIndicesSpec p lookAhead out
-  unfolding nextIndicesSpec
-  next-ill out e = missing-ill (upTo (baseOf (p .header)) []) out e
 
 -- 0 to n − 1: each below n, and n of them
 module _ (limit : ℕ) where

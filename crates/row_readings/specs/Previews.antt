@@ -52,15 +52,11 @@ checkedPreview s window point out =
     (shown (s .«internal_rotation») (s .dimensions) (baseOf s) (s .«next_sequence_index») window point)
     point)
 
--- a well-formed store previews so, any other refuses
+-- a well-formed store previews so
 module _ {E : Type 0} (p : PointStore E) (point out : List E) where
   pub preview-checked : wellFormed p ≡ true → checkedPreview (p .header) (p .memory .lastKnownShingle) point out ≡ shingledPointSpec p point out
   unfolding checkedPreview shown previewAllowed shingledPointSpec previewDecided previewed formDecided
   preview-checked e = rw e
-
-  pub preview-ill : wellFormed p ≡ false → output (refused 1) out ≡ shingledPointSpec p point out
-  unfolding shingledPointSpec previewDecided formDecided
-  preview-ill e = rw e
 
 -- a point of the output's length, written over it
 point-laid : {E : Type 0} (point out : List E) → length point ≡ length out → paste out 0 point (length point) ≡ point

@@ -157,10 +157,6 @@ module _ {E S : Type 0} (add : ℕ → List S → List E → List S) (zeroSum : 
   unfolding checkedSum pointSumSpec formDecided
   sum-checked p ws out e = rw (e, items-alone p ws, summed-alone p add ws (replicate (p .header .dimensions) zeroSum))
 
-  pub sum-ill : (p : PointStore E) (ws : List Weighted) (out : List S) → wellFormed p ≡ false → output (refused 1) out ≡ pointSumSpec add zeroSum p ws out
-  unfolding pointSumSpec formDecided
-  sum-ill p ws out e = rw e
-
   module _ (s : Store) (elements : List E) (counts location : List ℕ) (ws : List Weighted) (out : List S) where
     pub sum-length : (length out ≡ s .dimensions → ⊥) → output (refused 3) out ≡ checkedSum add zeroSum s elements counts location ws out
     unfolding checkedSum

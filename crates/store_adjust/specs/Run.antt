@@ -15,7 +15,7 @@ use Rattle.store_definitions.specs.Answers.{done, refused, refusedAfter, Outcom
 use Rattle.store_definitions.specs.Decisions.{carriedOut}
 use Rattle.store_definitions.specs.Counting.{Pairing, pairDecided, pairDone, pairCarriedOut, adjustFrom, adjustSpec}
 use Rattle.store_definitions.specs.WellFormed.{wellFormed}
-use Rattle.store_counts.specs.ReadingLaws.{ill, well}
+use Rattle.store_counts.specs.ReadingLaws.{well}
 use Rattle.store_adjust.specs.Pairs.{pairing, pairings, pairSpec}
 use Rattle.store_adjust.specs.PairLaws.{pair-keeps}
 
@@ -89,10 +89,6 @@ pub record State {E : Type 0} (rows : List (List ℕ)) (p₀ p : PointStore E) (
 pub spec-well : {E : Type 0} (p : PointStore E) (qs : List Pairing) → wellFormed p ≡ true → adjustFrom 0 qs p ≡ adjustSpec p qs
 unfolding adjustSpec
 spec-well p qs f = rw (well p f)
-
-pub spec-ill : {E : Type 0} (p : PointStore E) (qs : List Pairing) → wellFormed p ≡ false → outcome (refusedAfter 1 0) p ≡ adjustSpec p qs
-unfolding adjustSpec
-spec-ill p qs f = rw (ill p f)
 
 pub start : {E : Type 0} (rows : List (List ℕ)) (p : PointStore E) → wellFormed p ≡ true → State rows p p 0
 start rows p f = record { bound = zero-le; same = same-refl (p .memory); formed = f; run = spec-well p (pairings rows) f }

@@ -12,7 +12,8 @@ use Rattle.store_definitions.specs.Memory.{Memory, PointStore, pointStore}
 use Rattle.store_definitions.specs.Answers.{done, refusedAfter, adjustedMeans, Outcome, outcome}
 use Rattle.store_definitions.specs.Counting.{Pairing, adjustFrom, adjustSpec}
 use Rattle.store_definitions.specs.WellFormed.{wellFormed}
-use Rattle.store_adjust.specs.Run.{spec-well, spec-ill}
+use Rattle.store_laws.specs.IllFormedLaws.{adjust-ill}
+use Rattle.store_adjust.specs.Run.{spec-well}
 use Rattle.store_adjust_pairs.specs.declared.PairStep.{PairStep}
 use Rattle.store_adjust_pairs.specs.Records.{pairingOf, pairingsOf}
 use Rattle.store_adjust_pairs.specs.Steps.{accepted, comesTo}
@@ -50,7 +51,7 @@ module _ (ps : List Pair) (p₀ : PointStore ℕ) (r : PairStep) (m : Memory ℕ
   well-first f = e .1 ∙ sym (spec-well p₀ [] f)
 
   ill-first : wellFormed p₀ ≡ false → endOf r m ≡ outcome (refusedAfter 1 0) p₀
-  ill-first f = e .1 ∙ sym (spec-ill p₀ [] f)
+  ill-first f = e .1 ∙ adjust-ill p₀ f []
 
   pub begun : T (not (not (r .ok))) → Standing ps p₀ r m 0
   begun ok = split (wellFormed p₀) refl
@@ -73,7 +74,7 @@ module _ (ps : List Pair) (p₀ : PointStore ℕ) (r : PairStep) (m : Memory ℕ
       split : (b : Bool) → wellFormed p₀ ≡ b → endOf r m ≡ adjustSpec p₀ (pairingsOf ps)
       split true f =
           absurd (false≢true (sym (fails (r .ok) bad) ∙ (e .0 ∙ ap (λ (o : Outcome ℕ). accepted (o .answer)) (well-first f))))
-      split false f = ill-first f ∙ spec-ill p₀ (pairingsOf ps) f
+      split false f = ill-first f ∙ sym (adjust-ill p₀ f (pairingsOf ps))
 
 -- one pair, and the end of the list
 module _ (ps : List Pair) (p₀ : PointStore ℕ) (r : PairStep) (m : Memory ℕ) (i : ℕ) (at : Standing ps p₀ r m i) where

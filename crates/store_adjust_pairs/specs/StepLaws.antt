@@ -19,7 +19,8 @@ use Rattle.store_counts.specs.Elements.{refilled, refilledOutcome}
 use Rattle.store_adjust.specs.Elements.{from-refilled}
 use Rattle.store_adjust.specs.Pairs.{pairSpec}
 use Rattle.store_adjust.specs.PairLaws.{pair-keeps}
-use Rattle.store_adjust.specs.Run.{spec-well, spec-ill}
+use Rattle.store_laws.specs.IllFormedLaws.{adjust-ill}
+use Rattle.store_adjust.specs.Run.{spec-well}
 use Rattle.store_adjust_pairs.specs.declared.PairStep.{PairStep}
 use Rattle.store_adjust_pairs.specs.Steps.{accepted, checkedMeans, afterPairs, comesTo}
 
@@ -81,7 +82,7 @@ module _ (s : Store) (m : Memory ℕ) (r : PairStep) where
   checked : (b : Bool) → b ≡ wellFormed whole → outcome (checkedMeans b) whole ≡ adjustSpec whole []
   unfolding adjustFrom
   checked true e = spec-well whole [] (sym e)
-  checked false e = spec-ill whole [] (sym e)
+  checked false e = sym (adjust-ill whole (sym e) [])
 
   pub first-comes : (b : Bool) → b ≡ wellFormed whole → Holds r s (checkedMeans b) → comesTo r m (adjustSpec whole [])
   first-comes b e h = (h .0, ap₂ (λ (a : Answer) (t : Store). outcome a (pointStore t m)) (h .1 .1) (h .1 .0) ∙ checked b e)

@@ -27,7 +27,7 @@ use Rattle.store_laws.specs.Sound.{sound}
 use Rattle.store_laws.specs.DecisionLaws.{both-go, not-refused, touch-go, inc-label-go, dec-label-go}
 use Rattle.store_counts.specs.Tables.{countsAlone, emptied}
 use Rattle.store_counts.specs.TestLaws.{inc-test-alone, dec-test-alone}
-use Rattle.store_counts.specs.ReadingLaws.{ill, well}
+use Rattle.store_counts.specs.ReadingLaws.{well}
 
 -- a label whose count may fall
 pub record LabelReady (classes : List ℕ) (capacity : ℕ) (h : Labels) (l : ℕ) : Type 0 where
@@ -155,11 +155,3 @@ module _ {E : Type 0} (p : PointStore E) where
       pub dec-refused : decisionMeans d ≡ decTest alone i l → (r : Refusal) → d ≡ Refuse r → outcome (refused (number r)) p ≡ decSpec p i l
       unfolding decSpec
       dec-refused a r b = rw (well p f, sym (dec-test-alone p i l) ∙ sym a ∙ ap decisionMeans b)
-
-    pub inc-ill : wellFormed p ≡ false → outcome (refused 1) p ≡ incSpec p i l
-    unfolding incSpec
-    inc-ill e = rw (ill p e)
-
-    pub dec-ill : wellFormed p ≡ false → outcome (refused 1) p ≡ decSpec p i l
-    unfolding decSpec
-    dec-ill e = rw (ill p e)

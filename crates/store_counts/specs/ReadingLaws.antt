@@ -7,7 +7,7 @@ use lib.Dec.{ltb, eqb}
 use native.Mathlib.Omega.{arith}
 use borrow.Author.Tests.{lt-ltb, ne-eqb}
 use Rattle.terms.specs.Below.{countBelow, one, sum-same}
-use Rattle.interval_store_manager.specs.Calls.{go, refuse}
+use Rattle.interval_store_manager.specs.Calls.{go}
 use Rattle.labels.specs.Counted.{liveNumber}
 use Rattle.store_definitions.specs.Memory.{PointStore}
 use Rattle.store_definitions.specs.Answers.{is, refused}
@@ -18,17 +18,9 @@ use Rattle.store_definitions.specs.Counting.{countSpec, liveNumberSpec, freeSta
 use Rattle.store_check.specs.Entries.{countsLive}
 
 module _ {E : Type 0} (p : PointStore E) where
-  pub ill : wellFormed p ≡ false → formDecided p ≡ refuse 1
-  unfolding formDecided
-  ill e = rw e
-
   pub well : wellFormed p ≡ true → formDecided p ≡ go
   unfolding formDecided
   well e = rw e
-
-  pub count-ill : wellFormed p ≡ false → (i : ℕ) → refused 1 ≡ countSpec p i
-  unfolding countSpec
-  count-ill e i = rw (ill e)
 
   pub count-dead : wellFormed p ≡ true → (i : ℕ) → live p i ≡ false → refused 5 ≡ countSpec p i
   unfolding countSpec touchDecided
@@ -37,10 +29,6 @@ module _ {E : Type 0} (p : PointStore E) where
   pub count-live : wellFormed p ≡ true → (i : ℕ) → live p i ≡ true → (n : ℕ) → n ≡ getD (p .memory .referenceCount) i 0 → is n ≡ countSpec p i
   unfolding countSpec touchDecided
   count-live e i d n f = rw (well e, d, f)
-
-  pub live-number-ill : wellFormed p ≡ false → refused 1 ≡ liveNumberSpec p
-  unfolding liveNumberSpec
-  live-number-ill e = rw (ill e)
 
   above-zero : (n : ℕ) → not (eqb n 0) ≡ ltb 0 n
   above-zero zero = refl
@@ -55,10 +43,6 @@ module _ {E : Type 0} (p : PointStore E) where
   pub live-number-well : wellFormed p ≡ true → (n : ℕ) → n ≡ countsLive (tableLength (p .header)) (p .memory .referenceCount) → is n ≡ liveNumberSpec p
   unfolding liveNumberSpec
   live-number-well e n f = rw (well e, f, counts-live)
-
-  pub free-start-ill : wellFormed p ≡ false → refused 1 ≡ freeStartSpec p
-  unfolding freeStartSpec
-  free-start-ill e = rw (ill e)
 
   pub free-start-well : wellFormed p ≡ true → is (p .header .«start_free_region») ≡ freeStartSpec p
   unfolding freeStartSpec

@@ -3,7 +3,7 @@ use Prim.Native.Nat.{ℕ, _≤_}
 use native.Mathlib.Nat.{div-le-self}
 use native.Mathlib.Omega.{arith}
 use mathlib.Core.List.{List}
-use mathlib.Core.Bool.{true, false}
+use mathlib.Core.Bool.{true}
 use mathlib.Core.Path.{_≡_, ap}
 use lib.ListN.{length, take}
 use lib.Seq.{length-take-le}
@@ -11,7 +11,7 @@ use Rattle.placement.specs.Compaction.{Layout}
 use Rattle.placement_rows.specs.Compactable.{Compactable, compactedTable}
 use Rattle.store_definitions.specs.declared.Store.{Store}
 use Rattle.store_definitions.specs.Memory.{PointStore}
-use Rattle.store_definitions.specs.Answers.{done, refused, outcome}
+use Rattle.store_definitions.specs.Answers.{done, outcome}
 use Rattle.store_definitions.specs.Parts.{baseOf, tableLength, Rows, rowsOf, withRows}
 use Rattle.store_definitions.specs.Decisions.{formDecided}
 use Rattle.store_definitions.specs.Rows.{compactedRows, compactSpec}
@@ -51,11 +51,7 @@ pub compacted-rows : (s : Store) (elements location : List ℕ) (after : Layout 
 unfolding compactedTable compactedRows
 compacted-rows s elements location after e = ap (λ (l : Layout ℕ). rows (l .elements) (l .location) (l .free) (s .«store_length»)) e
 
--- a well-formed store is compacted, any other refused
+-- a well-formed store is compacted
 pub compact-done : (p : PointStore ℕ) (after : Rows ℕ) → wellFormed p ≡ true → after ≡ compactedRows 0 (p .header) (rowsOf p) → outcome done (withRows after p) ≡ compactSpec 0 p
 unfolding compactSpec formDecided
 compact-done p after w e = rw (w, e)
-
-pub compact-ill : (p : PointStore ℕ) → wellFormed p ≡ false → outcome (refused 1) p ≡ compactSpec 0 p
-unfolding compactSpec formDecided
-compact-ill p e = rw e

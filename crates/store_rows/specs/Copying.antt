@@ -2,7 +2,7 @@
 use Prim.Native.Nat.{ℕ, _+_, _*_, _≤_, _<_}
 use native.Mathlib.Omega.{arith}
 use mathlib.Core.List.{List}
-use mathlib.Core.Bool.{true, false, cond, not, _&&_}
+use mathlib.Core.Bool.{true, cond, not, _&&_}
 use mathlib.Core.Path.{_≡_, sym, _∙_, ap, subst}
 use lib.ListN.{length, getD}
 use lib.Seq.{drop-cons}
@@ -59,14 +59,10 @@ checkedCopy s elements counts location i out =
     writes (copyAllowed s counts i (length out)) out
     (copied (s .«internal_rotation») (s .dimensions) (baseOf s) (getD location i 65535) elements)
 
--- a well-formed store copies so, any other refuses
+-- a well-formed store copies so
 pub copy-checked : {E : Type 0} (p : PointStore E) (i : ℕ) (out : List E) → wellFormed p ≡ true → checkedCopy (p .header) (p .memory .store) (p .memory .referenceCount) (p .memory .location) i out ≡ copySpec p i out
 unfolding checkedCopy copySpec copyDecided copyAllowed copyOf formDecided touchDecided live
 copy-checked p i out e = rw e
-
-pub copy-ill : {E : Type 0} (p : PointStore E) (i : ℕ) (out : List E) → wellFormed p ≡ false → output (refused 1) out ≡ copySpec p i out
-unfolding copySpec copyDecided formDecided
-copy-ill p i out e = rw e
 
 -- the ways out
 module _ {E : Type 0} (s : Store) (elements : List E) (counts location : List ℕ) (i : ℕ) (out : List E) where

@@ -23,7 +23,8 @@ use Rattle.store_rows.specs.Copying.{readable}
 use Rattle.store_counts.specs.ReadingLaws.{well}
 use Rattle.store_counts.specs.Tables.{countsAlone}
 use Rattle.row_readings.specs.Items.{rowsAlone, Addable}
-use Rattle.row_readings.specs.SumLaws.{items-alone, first-decided, first-added, addable, sum-checked, sum-ill, sum-length}
+use Rattle.store_laws.specs.IllFormedLaws.{sum-ill}
+use Rattle.row_readings.specs.SumLaws.{items-alone, first-decided, first-added, addable, sum-checked, sum-length}
 use Rattle.store_sum_items.specs.Records.{weightingOf, weightingsOf}
 use Rattle.store_sum_items.specs.Steps.{SumState, state, begun, turned}
 
@@ -138,7 +139,7 @@ module _ {E S : Type 0} (add : ℕ → List S → List E → List S) (zeroSum : 
   begins = split (wellFormed p) refl (eqb (length out₀) (p .header .dimensions)) refl (eqb n 0) refl
     where
       split : (w : Bool) → wellFormed p ≡ w → (f : Bool) → eqb (length out₀) (p .header .dimensions) ≡ f → (b : Bool) → eqb n 0 ≡ b → Standing (begun zeroSum w f n out₀)
-      split false e f g b k = refused-comes 1 out₀ (sum-ill add zeroSum p (weightingsOf xs) out₀ e)
+      split false e f g b k = refused-comes 1 out₀ (sym (sum-ill p e add zeroSum (weightingsOf xs) out₀))
       split true e false g b k =
           refused-comes 3 out₀ (sum-length add zeroSum (p .header) (p .memory .store) (p .memory .referenceCount) (p .memory .location) (weightingsOf xs) out₀ (eqb-false (length out₀) (p .header .dimensions) g) ∙ sum-checked add zeroSum p (weightingsOf xs) out₀ e)
       split true e true g true k =

@@ -7,7 +7,7 @@ use Rattle.store_check.specs.CheckLaws.{well-formed-lengths}
 use Rattle.store_counts.specs.Elements.{refilledOutcome}
 use Rattle.store_adjust.specs.Pairs.{pairings}
 use Rattle.store_adjust.specs.Elements.{adjust-same}
-use Rattle.store_adjust.specs.Run.{spec-ill}
+use Rattle.store_laws.specs.IllFormedLaws.{adjust-ill}
 use Rattle.store_adjust.proofs.adjust_plain.Statement.{statement}
 use Rattle.store_adjust.proofs.adjust_plain.Tie as tie
 
@@ -87,7 +87,7 @@ returns-2 : tie.Need-returns-2
 returns-2 c =
     let a = c .before .before .before .before .before .before .before .before .before .before .before .before .before .before .before .before .before .before .before .before .before .before .before .before .before .before .before .args in
     let m = (held (a .store) (a .last-known-shingle) (a .reference-count) (a .location) (a .index-starts) (a .index-ends) (a .labels) (a .label-attributes) (a .label-count) (a .label-starts) (a .label-ends) (a .attributes) (a .attribute-count) (a .attribute-starts) (a .attribute-ends)) in
-    spec-ill (pointStore (a .s) m) (pairings (a .pairs .now)) (sym (c .before .check .ensures .0 ∙ well-formed-lengths (a .s) m) ∙ c .if1 .left)
+    sym (adjust-ill (pointStore (a .s) m) (sym (c .before .check .ensures .0 ∙ well-formed-lengths (a .s) m) ∙ c .if1 .left) (pairings (a .pairs .now)))
 
 pub adjust-plain-spec : {M : Type 1} → statement M
 adjust-plain-spec = tie.close (tie.spec check-requires adjust-well-formed-requires same-length same-length-2 same-length-3 same-length-4 same-length-5 same-length-6 same-length-7 same-length-8 same-length-9 same-length-10 returns same-length-11 same-length-12 same-length-13 same-length-14 same-length-15 same-length-16 same-length-17 same-length-18 same-length-19 same-length-20 returns-2)

@@ -5,7 +5,7 @@ use Rattle.store_definitions.specs.Lent.{held}
 use Rattle.store_definitions.specs.Memory.{pointStore}
 use Rattle.store_check.specs.CheckLaws.{well-formed-lengths}
 use Rattle.store_counts.specs.Elements.{refilledOutcome, inc-same}
-use Rattle.store_counts.specs.CallLaws.{inc-ill}
+use Rattle.store_laws.specs.IllFormedLaws.{inc-ill}
 use Rattle.store_counts.proofs.raise.inc.Statement.{statement}
 use Rattle.store_counts.proofs.raise.inc.Tie as tie
 
@@ -43,7 +43,7 @@ returns-2 : tie.Need-returns-2
 returns-2 c =
     let a = c .before .before .before .before .before .before .before .before .before .before .before .before .before .before .before .before .before .before .before .before .args in
     let m = (held (a .store) (a .last-known-shingle) (a .reference-count) (a .location) (a .index-starts) (a .index-ends) (a .labels) (a .label-attributes) (a .label-count) (a .label-starts) (a .label-ends) (a .attributes) (a .attribute-count) (a .attribute-starts) (a .attribute-ends)) in
-    inc-ill (pointStore (a .s) m) (a .index .0) (a .label .0) (sym (c .before .check .ensures .0 ∙ well-formed-lengths (a .s) m) ∙ c .if1 .left)
+    sym (inc-ill (pointStore (a .s) m) (sym (c .before .check .ensures .0 ∙ well-formed-lengths (a .s) m) ∙ c .if1 .left) (a .index .0) (a .label .0))
 
 pub inc-spec : {M : Type 1} → statement M
 inc-spec = tie.close (tie.spec check-requires inc-well-formed-requires same-length same-length-2 same-length-3 returns same-length-4 same-length-5 same-length-6 returns-2)

@@ -4,7 +4,8 @@ use mathlib.Core.Path.{sym, _∙_}
 use Rattle.store_definitions.specs.Lent.{held}
 use Rattle.store_definitions.specs.Memory.{pointStore}
 use Rattle.store_check.specs.CheckLaws.{well-formed-lengths}
-use Rattle.store_counts.specs.ReadingLaws.{count-ill, count-dead, count-live}
+use Rattle.store_laws.specs.IllFormedLaws.{count-ill}
+use Rattle.store_counts.specs.ReadingLaws.{count-dead, count-live}
 use Rattle.store_counts.specs.TestLaws.{live-alone}
 use Rattle.store_counts.proofs.read.count.Statement.{statement}
 use Rattle.store_counts.proofs.read.count.Tie as tie
@@ -34,7 +35,7 @@ returns-3 : tie.Need-returns-3
 returns-3 c =
     let a = c .before .before .before .before .before .before .before .before .before .before .before .before .before .before .before .before .before .args in
     let m = (held (a .store) (a .last-known-shingle) (a .reference-count) (a .location) (a .index-starts) (a .index-ends) (a .labels) (a .label-attributes) (a .label-count) (a .label-starts) (a .label-ends) (a .attributes) (a .attribute-count) (a .attribute-starts) (a .attribute-ends)) in
-    count-ill (pointStore (a .s) m) (sym (c .before .check .ensures .0 ∙ well-formed-lengths (a .s) m) ∙ c .if1 .left) (a .index .0)
+    sym (count-ill (pointStore (a .s) m) (sym (c .before .check .ensures .0 ∙ well-formed-lengths (a .s) m) ∙ c .if1 .left) (a .index .0))
 
 pub count-spec : {M : Type 1} → statement M
 count-spec = tie.close (tie.spec check-requires point-in-use-requires point-count-requires returns returns-2 returns-3)

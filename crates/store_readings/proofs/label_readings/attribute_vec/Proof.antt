@@ -1,13 +1,14 @@
 -- The check decides between two laws of `LabelLaws`.
 use borrow.Author.Needs.{needs}
 use mathlib.Core.Bool.{true, false}
-use mathlib.Core.Path.{ap, _∙_}
+use mathlib.Core.Path.{ap, sym, _∙_}
 use Rattle.labels.specs.Readings.{vectorReadMeans}
 use Rattle.store_definitions.specs.Answers.{Answer, output}
 use Rattle.store_definitions.specs.Lent.{held}
 use Rattle.store_definitions.specs.Memory.{pointStore}
+use Rattle.store_laws.specs.IllFormedLaws.{attribute-vec-ill}
 use Rattle.store_rows.specs.Checked.{checked-is}
-use Rattle.store_readings.specs.LabelLaws.{vec-checked, vec-ill}
+use Rattle.store_readings.specs.LabelLaws.{vec-checked}
 use Rattle.store_readings.proofs.label_readings.attribute_vec.Statement.{statement}
 use Rattle.store_readings.proofs.label_readings.attribute_vec.Tie as tie
 
@@ -34,7 +35,7 @@ returns-2 : tie.Need-returns-2
 returns-2 c =
     let a = c .before .before .before .before .before .before .before .before .before .before .before .before .before .before .before .before .before .before .args in
     let m = (held (a .store) (a .last-known-shingle) (a .reference-count) (a .location) (a .index-starts) (a .index-ends) (a .labels) (a .label-attributes) (a .label-count) (a .label-starts) (a .label-ends) (a .attributes) (a .attribute-count) (a .attribute-starts) (a .attribute-ends)) in
-    vec-ill (pointStore (a .s) m) (a .label .0) (a .out .now) (checked-is (a .s) m (c .before .check .result .ok) false (c .before .check .ensures .0) (c .if1 .left))
+    sym (attribute-vec-ill (pointStore (a .s) m) (checked-is (a .s) m (c .before .check .result .ok) false (c .before .check .ensures .0) (c .if1 .left)) (a .label .0) (a .out .now))
 
 pub attribute-vec-spec : {M : Type 1} → statement M
 attribute-vec-spec = tie.close (tie.spec check-requires attribute-vec-requires vector-read-requires same-length returns returns-2)

@@ -1,11 +1,12 @@
 -- The check decides between the two laws of `Compacting`.
 use borrow.Author.Needs.{needs}
 use mathlib.Core.Bool.{true, false}
-use mathlib.Core.Path.{refl}
+use mathlib.Core.Path.{sym, refl}
 use Rattle.store_definitions.specs.Lent.{held}
 use Rattle.store_definitions.specs.Memory.{pointStore}
 use Rattle.store_rows.specs.Checked.{checked-is}
-use Rattle.store_rows.specs.Compacting.{rows, rows-ready, compact-done, compact-ill}
+use Rattle.store_laws.specs.IllFormedLaws.{compact-ill}
+use Rattle.store_rows.specs.Compacting.{rows, rows-ready, compact-done}
 use Rattle.store_rows.proofs.compaction.compact.Statement.{statement}
 use Rattle.store_rows.proofs.compaction.compact.Tie as tie
 
@@ -38,7 +39,7 @@ returns-2 : tie.Need-returns-2
 returns-2 c =
     let a = c .before .before .before .before .before .before .before .before .before .before .before .before .before .before .before .before .before .before .args in
     let m = (held (a .store) (a .last-known-shingle) (a .reference-count) (a .location) (a .index-starts) (a .index-ends) (a .labels) (a .label-attributes) (a .label-count) (a .label-starts) (a .label-ends) (a .attributes) (a .attribute-count) (a .attribute-starts) (a .attribute-ends)) in
-    compact-ill (pointStore (a .s) m) (checked-is (a .s) m (c .before .check .result .ok) false (c .before .check .ensures .0) (c .if1 .left))
+    sym (compact-ill (pointStore (a .s) m) (checked-is (a .s) m (c .before .check .result .ok) false (c .before .check .ensures .0) (c .if1 .left)) 0)
 
 pub compact-spec : {M : Type 1} → statement M
 compact-spec = tie.close (tie.spec check-requires compact-unchecked-requires same-length same-length-2 returns same-length-3 returns-2)

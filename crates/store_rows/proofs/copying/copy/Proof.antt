@@ -1,11 +1,12 @@
 -- The check decides between the two laws of `Copying`.
 use borrow.Author.Needs.{needs}
 use mathlib.Core.Bool.{true, false}
-use mathlib.Core.Path.{_∙_}
+use mathlib.Core.Path.{sym, _∙_}
 use Rattle.store_definitions.specs.Lent.{held}
 use Rattle.store_definitions.specs.Memory.{pointStore}
 use Rattle.store_rows.specs.Checked.{checked-is}
-use Rattle.store_rows.specs.Copying.{readable, copy-checked, copy-ill}
+use Rattle.store_laws.specs.IllFormedLaws.{copy-ill}
+use Rattle.store_rows.specs.Copying.{readable, copy-checked}
 use Rattle.store_rows.proofs.copying.copy.Statement.{statement}
 use Rattle.store_rows.proofs.copying.copy.Tie as tie
 
@@ -32,7 +33,7 @@ returns-2 : tie.Need-returns-2
 returns-2 c =
     let a = c .before .before .before .before .before .before .before .before .before .before .before .before .before .before .before .before .before .before .args in
     let m = (held (a .store) (a .last-known-shingle) (a .reference-count) (a .location) (a .index-starts) (a .index-ends) (a .labels) (a .label-attributes) (a .label-count) (a .label-starts) (a .label-ends) (a .attributes) (a .attribute-count) (a .attribute-starts) (a .attribute-ends)) in
-    copy-ill (pointStore (a .s) m) (a .index .0) (a .out .now) (checked-is (a .s) m (c .before .check .result .ok) false (c .before .check .ensures .0) (c .if1 .left))
+    sym (copy-ill (pointStore (a .s) m) (checked-is (a .s) m (c .before .check .result .ok) false (c .before .check .ensures .0) (c .if1 .left)) (a .index .0) (a .out .now))
 
 pub copy-spec : {M : Type 1} → statement M
 copy-spec =
