@@ -8,7 +8,7 @@ use lib.ListN.{replicate}
 use lib.Dec.{eqb}
 use Rattle.terms.specs.Below.{sumBelow}
 use Rattle.placement.specs.Alike.{Alike}
-use Rattle.placement.specs.AlignmentLaws.{pointRoom}
+use Rattle.placement.specs.Growth.{grown}
 use Rattle.placement.specs.Copying.{turn, turned}
 use Rattle.labels.specs.Decisions.{none}
 use Rattle.store_definitions.specs.Answers.{done, is, refused}
@@ -33,14 +33,14 @@ record Gives : Type 0 where
   d-sum : sumBelow 10 (λ i. numberIn (countCall (store listD) i)) ≡ 2
   d-room : store listD .header .«start_free_region» ≤ 8
   d-number : liveNumberCall (store listD) ≡ is 2
-  -- a live point's room of 3 floats and 2 floats more do not fit the store length
-  h-bound : liveIndices 2 (history eqb 0 (small true) (fresh (small true)) listSmall) * 3 + 2 ≤ after eqb 0 (fresh (small true)) listSmall .header .«store_length» → ⊥
+  -- a live point's room of 3 floats and 2 floats more do not fit the store length, which is the largest
+  h-bound : liveIndices 2 (history eqb 0 (small true) (fresh (small true)) listSmall) * 3 + 2 ≤ grown (after eqb 0 (fresh (small true)) listSmall .header .«store_length») 0 4 → ⊥
 
 abbrev holding : (calls : List (Call ℕ)) → Guarantee eqb 0 shape (fresh shape) calls
 holding calls = guaranteed eqb 0 shape (fresh shape) (rubbish shape) opens-fresh calls
 
 gives : Gives
-unfolding turn turned pointRoom
+unfolding turn turned grown
 gives =
     record {
       a-count = holding listA .counts 0 ∙ ap countAnswer (said .a);

@@ -142,6 +142,7 @@ module _ {E : Type 0} (eq : E → E → Bool) (zeroElement : E) (h : Shape) (sta
 
     -- (h)
     not-short-within : (c : Call E) → NotShortWithin eq zeroElement h start c calls
+    unfolding pointRoom
     not-short-within (add point code) fits = λ e. omega (arith, fits, space-refusal eq zeroElement p point code h then s (holds .well-formed) r e .1)
     not-short-within (inc i l) fits = tt
     not-short-within (dec i l) fits = tt
@@ -194,6 +195,7 @@ module _ {E : Type 0} (eq : E → E → Bool) (zeroElement : E) (h : Shape) (sta
 
     -- the list guarantee
     pub guaranteed : (calls : List (Call E)) → Guarantee eq zeroElement h start calls
+    unfolding pointRoom
     guaranteed calls =
         let holds = run calls in
         let r = holds .relates in
