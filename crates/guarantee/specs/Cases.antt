@@ -20,7 +20,7 @@ use Rattle.placement.specs.Growth.{grown}
 use Rattle.placement.specs.Laying.{writtenCount, laidAs, laidElements, laidFree, placeOf}
 use Rattle.placement.specs.Overlap.{overlaps}
 use Rattle.placement.specs.Row.{rowToLay, movedWindow}
-use Rattle.labels.specs.Counted.{countedWell, indexTaken, raised, lowered, liveNumber}
+use Rattle.labels.specs.Counted.{managed, freeUncounted, countsFit, indexTaken, raised, lowered, liveNumber}
 use Rattle.labels.specs.Decisions.{none, codeDecided, roomDecided, incDecided, decDecided}
 use Rattle.store_definitions.specs.declared.Shape.{Shape}
 use Rattle.store_definitions.specs.Memory.{Memory, PointStore}
@@ -31,7 +31,7 @@ use Rattle.store_definitions.specs.Rows.{compactedRows, grownRows, short, roomM
 use Rattle.store_definitions.specs.Adding.{pointLength, waits, tableFull, entriesFilled, addDecided, windowAfter, sequenced, rowOf, labelGiven, labelled, tableGrown, placed, joins, overflows, laidRows, laidHow, keptAfter, indexGiven, keeps, addSpec}
 use Rattle.store_definitions.specs.Bounds.{boundsHold, startAllowed, rotationAllowed, lentEnough}
 use Rattle.store_definitions.specs.Decisions.{formDecided, live, touchDecided}
-use Rattle.store_definitions.specs.WellFormed.{freeStartWell, placesDistinct, placesEnd, pointsWell, wellFormed}
+use Rattle.store_definitions.specs.WellFormed.{tableLengthWell, storeLengthWell, freeStartWell, emptyUncounted, placesDistinct, placesEnd, sequenceWell, wellFormed}
 use Rattle.guarantee.specs.Calls.{openCall, copyCall, countCall, liveNumberCall, freeStartCall}
 use Rattle.guarantee.specs.Run.{Call, add, inc, dec, adjust, compact, after, answerTo}
 use Rattle.guarantee.specs.History.{Given, dead, alive, History, pairChanges, pairsChanges, joinedPoints, rowOfAdd, changedBy, recorded, history}
@@ -162,7 +162,7 @@ pub record Computed : Type 0 where
   pub h-small : third true ≡ refused 10
 
 pub computed : Computed
-unfolding fresh openedMemory opened after history recorded changedBy pairChanges pairsChanges joinedPoints rowOfAdd liveIndices everyBelow sumBelow countBelow allEqual pushed changed taken released inside holders isFree inBounds noneShared capacityAllowed stackLent managerWellFormed wrappingSub wrappingAdd alignment zerosBefore pointRoom holds liveBelow moved grownBlocks blocks blockMoves copiedDown settled blockDown blocksDown writtenByBlocks compacted turn turned copied grown writtenCount laidAs laidElements laidFree placeOf overlaps rowToLay movedWindow countedWell indexTaken lowered liveNumber codeDecided roomDecided incDecided decDecided raised incTest incremented incSpec pairDecided pairDone adjustFrom adjustSpec decTest placeAfterDec decremented decSpec compactedRows grownRows short roomMade compactSpec copyOf pointLength waits tableFull entriesFilled addDecided windowAfter sequenced rowOf labelGiven labelled tableGrown placed joins overflows laidRows laidHow keptAfter indexGiven keeps addSpec boundsHold rotationAllowed lentEnough formDecided live touchDecided freeStartWell placesDistinct placesEnd pointsWell wellFormed liveNumberSpec freeStartSpec countSpec copyDecided copySpec
+unfolding fresh openedMemory opened after history recorded changedBy pairChanges pairsChanges joinedPoints rowOfAdd liveIndices everyBelow sumBelow countBelow allEqual pushed changed taken released inside holders isFree inBounds noneShared capacityAllowed stackLent managerWellFormed wrappingSub wrappingAdd alignment zerosBefore pointRoom holds liveBelow moved grownBlocks blocks blockMoves copiedDown settled blockDown blocksDown writtenByBlocks compacted turn turned copied grown writtenCount laidAs laidElements laidFree placeOf overlaps rowToLay movedWindow managed freeUncounted countsFit indexTaken lowered liveNumber codeDecided roomDecided incDecided decDecided raised incTest incremented incSpec pairDecided pairDone adjustFrom adjustSpec decTest placeAfterDec decremented decSpec compactedRows grownRows short roomMade compactSpec copyOf pointLength waits tableFull entriesFilled addDecided windowAfter sequenced rowOf labelGiven labelled tableGrown placed joins overflows laidRows laidHow keptAfter indexGiven keeps addSpec boundsHold rotationAllowed lentEnough formDecided live touchDecided tableLengthWell storeLengthWell freeStartWell emptyUncounted placesDistinct placesEnd sequenceWell wellFormed liveNumberSpec freeStartSpec countSpec copyDecided copySpec
 computed =
     record {
       d-d = refl;
@@ -200,5 +200,5 @@ pub record Said : Type 0 where
   pub d-number : liveIndices 10 (past listD) ≡ 2
 
 pub said : Said
-unfolding fresh openedMemory opened after history recorded changedBy pairChanges pairsChanges joinedPoints rowOfAdd liveIndices everyBelow sumBelow countBelow allEqual pushed changed taken released inside holders isFree inBounds noneShared capacityAllowed stackLent managerWellFormed wrappingSub wrappingAdd alignment zerosBefore pointRoom holds liveBelow moved grownBlocks blocks blockMoves copiedDown settled blockDown blocksDown writtenByBlocks compacted turn turned copied grown writtenCount laidAs laidElements laidFree placeOf overlaps rowToLay movedWindow countedWell indexTaken lowered liveNumber codeDecided roomDecided incDecided decDecided raised incTest incremented incSpec pairDecided pairDone adjustFrom adjustSpec decTest placeAfterDec decremented decSpec compactedRows grownRows short roomMade compactSpec copyOf pointLength waits tableFull entriesFilled addDecided windowAfter sequenced rowOf labelGiven labelled tableGrown placed joins overflows laidRows laidHow keptAfter indexGiven keeps addSpec boundsHold rotationAllowed lentEnough formDecided live touchDecided freeStartWell placesDistinct placesEnd pointsWell wellFormed
+unfolding fresh openedMemory opened after history recorded changedBy pairChanges pairsChanges joinedPoints rowOfAdd liveIndices everyBelow sumBelow countBelow allEqual pushed changed taken released inside holders isFree inBounds noneShared capacityAllowed stackLent managerWellFormed wrappingSub wrappingAdd alignment zerosBefore pointRoom holds liveBelow moved grownBlocks blocks blockMoves copiedDown settled blockDown blocksDown writtenByBlocks compacted turn turned copied grown writtenCount laidAs laidElements laidFree placeOf overlaps rowToLay movedWindow managed freeUncounted countsFit indexTaken lowered liveNumber codeDecided roomDecided incDecided decDecided raised incTest incremented incSpec pairDecided pairDone adjustFrom adjustSpec decTest placeAfterDec decremented decSpec compactedRows grownRows short roomMade compactSpec copyOf pointLength waits tableFull entriesFilled addDecided windowAfter sequenced rowOf labelGiven labelled tableGrown placed joins overflows laidRows laidHow keptAfter indexGiven keeps addSpec boundsHold rotationAllowed lentEnough formDecided live touchDecided tableLengthWell storeLengthWell freeStartWell emptyUncounted placesDistinct placesEnd sequenceWell wellFormed
 said = record { a = refl; b = refl; c = refl; adjusted = refl; d-gone = refl; d-live = refl; d-adds = refl; d-incs = refl; d-decs = refl; d-number = refl }

@@ -172,6 +172,8 @@ module _ {E : Type 0} (h : Shape) (m : Memory E) where
             empty-is = λ i l.
                 eq-eqb (getD (filledFirst start 0 (m .referenceCount)) i 0) 0 (filled-at start 0 (m .referenceCount) i 0 l)
                 ∙ sym (eq-eqb (getD places i 65535) 65535 (filled-at start 65535 (m .location) i 65535 l));
+            sequence-most = omega arith;
+            counts-most = λ i l. rw (filled-at start 0 (m .referenceCount) i 0 l) (omega arith);
             labels = f;
           }
 
