@@ -7,10 +7,9 @@ use lib.ListN.{getD, set}
 use lib.Dec.{leb, ltb, eqb}
 use Rattle.terms.specs.Below.{everyBelow, countBelow}
 use Rattle.interval_store_manager.specs.declared.IntervalStoreManager.{IntervalStoreManager}
-use Rattle.interval_store_manager.specs.Intervals.{isFree}
+use Rattle.interval_store_manager.specs.Intervals.{atTop, isFree}
 use Rattle.interval_store_manager.specs.WellFormed.{wellFormed}
 use Rattle.interval_store_manager.specs.Calls.{taken, released}
-use Rattle.interval_store_manager.specs.GetLaws.{next}
 
 pub record Counted : Type 0 where
   pub manager : IntervalStoreManager
@@ -29,7 +28,7 @@ free t i = isFree (t .manager .last_in_use) (t .starts) (t .ends) i
 
 -- the index that the manager gives next
 abbrev pub nextIndex : Counted → ℕ
-nextIndex t = next (t .manager .last_in_use) (t .starts)
+nextIndex t = atTop (t .manager .last_in_use) (t .starts)
 
 -- how many indices are live
 unfoldable pub liveNumber : ℕ → Counted → ℕ

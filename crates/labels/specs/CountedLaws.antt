@@ -16,7 +16,8 @@ use Rattle.interval_store_manager.specs.WellFormed.{wellFormed}
 use Rattle.interval_store_manager.specs.Sound.{sound}
 use Rattle.interval_store_manager.specs.Answers.{Outcome, outcome, given, done}
 use Rattle.interval_store_manager.specs.Calls.{taken, released}
-use Rattle.interval_store_manager.specs.GetLaws.{next, next-below, get-keeps, get-free, get-was-free, took}
+use Rattle.interval_store_manager.specs.Intervals.{atTop}
+use Rattle.interval_store_manager.specs.GetLaws.{next-below, get-keeps, get-free, get-was-free, took}
 use Rattle.interval_store_manager.specs.ReleaseLaws.{gave, release-keeps, release-free}
 use Rattle.interval_store_manager.specs.FreeLaws.{not-free-held, empty-stack}
 use Rattle.labels.specs.Counted.{Counted, counted, countAt, free, nextIndex, managed, freeUncounted, countsFit, indexTaken, raised, lowered}
@@ -197,7 +198,7 @@ lowered-kept t i d = rw (ne-eqb (countAt t i) 1 d)
 given-next : (t : Counted) → taken (t .manager) (t .starts) (t .ends) .answer ≡ given (nextIndex t)
 unfolding taken
 given-next t =
-    let end = next (t .manager .last_in_use) (t .ends) in
+    let end = atTop (t .manager .last_in_use) (t .ends) in
     elim (ℕ-discrete (nextIndex t) end) [ yes e ↦ rw (eq-eqb (nextIndex t) end e) | no d ↦ rw (ne-eqb (nextIndex t) end d) ]
 
 pub index-given : (t : Counted) (i : ℕ) (r : IntervalStoreManager) (ss es : List ℕ) → outcome (given i) r ss es ≡ taken (t .manager) (t .starts) (t .ends) → i ≡ nextIndex t
