@@ -50,7 +50,7 @@ module _ {E : Type 0} (eq : E → E → Bool) (zeroElement : E) (p : PointStore 
           → (d ≡ keep) × (overflows eq (p .header) (roomMade zeroElement (p .header) (rowsOf p)) (rowOf p point) ≡ true)
       split keep e a = (
         refl,
-        full-room (overflows eq (p .header) (roomMade zeroElement (p .header) (rowsOf p)) (rowOf p point)) (withRows (roomMade zeroElement (p .header) (rowsOf p)) p) (keptAfter eq zeroElement p point code) (indexGiven eq zeroElement p) (labelGiven p) (laidHow eq (p .header) (roomMade zeroElement (p .header) (rowsOf p)) (rowOf p point)) a,
+        full-room (overflows eq (p .header) (roomMade zeroElement (p .header) (rowsOf p)) (rowOf p point)) (withRows (roomMade zeroElement (p .header) (rowsOf p)) p) (keptAfter eq (roomMade zeroElement (p .header) (rowsOf p)) (rowOf p point) p point code) (indexGiven p) (labelGiven p) (laidHow eq (p .header) (roomMade zeroElement (p .header) (rowsOf p)) (rowOf p point)) a,
       )
       split wait e a = absurd (let z : _≡_ {A = ℕ} 0 1 = cc in omega arith)
       split (refuseAdd n) e a = absurd (decided-not-ten f (e ∙ ap refuseAdd (let q : n ≡ 10 = cc in q)))

@@ -136,7 +136,7 @@ module _ {E : Type 0} (eq : E → E → Bool) (zeroElement : E) (p : PointStore 
           placed-well n (pointTable laid) (laid .memory .location)
           (as-it-is laid laid-well (positive (h .«index_manager» .last_in_use) (eqb-false (h .«index_manager» .last_in_use) 0 e))))
 
-    pub kept-sound : Sound (keptAfter eq zeroElement p point code)
+    pub kept-sound : Sound (keptAfter eq (roomMade zeroElement (p .header) (rowsOf p)) (rowOf p point) p point code)
     unfolding keptAfter labelled
     kept-sound =
         let l : Labels = labelTaken classTable (h .capacity) (labelHalf p) code .after in
@@ -157,7 +157,7 @@ module _ {E : Type 0} (eq : E → E → Bool) (zeroElement : E) (p : PointStore 
           let r : Rows E = roomMade zeroElement (p .header) (rowsOf p) in
           let row : List E = rowOf p point in
           by-cases (λ o. Sound (o .after)) (overflows eq (p .header) r row) (outcome (refused 10) (withRows r p))
-          (outcome (kept (indexGiven eq zeroElement p) (labelGiven p) (laidHow eq (p .header) r row)) (keptAfter eq zeroElement p point code))
+          (outcome (kept (indexGiven p) (labelGiven p) (laidHow eq (p .header) r row)) (keptAfter eq (roomMade zeroElement (p .header) (rowsOf p)) (rowOf p point) p point code))
           (λ full. room-kept eq zeroElement p w point code k)
           (λ fits. kept-sound eq zeroElement p w point code k fits)
       split wait e = let a = waits-on p point code e in sequenced-sound p point w (a .sized) (a .unfinished)

@@ -20,7 +20,7 @@ use Rattle.store_definitions.specs.Memory.{PointStore}
 use Rattle.store_definitions.specs.Answers.{done, Outcome, outcome}
 use Rattle.store_definitions.specs.Parts.{tableLength, pointTable, labelHalf, withPoints, withLabels}
 use Rattle.store_definitions.specs.Decisions.{andThen, formDecided, touchDecided}
-use Rattle.store_definitions.specs.Counting.{Pairing, incTest, decTest, incremented, placeAfterDec, decremented, incSpec, decSpec, pairDecided, pairDone, pairCarriedOut, adjustFrom, adjustSpec}
+use Rattle.store_definitions.specs.Counting.{Pairing, incTest, decTest, incremented, placeAfterDec, decremented, incSpec, decSpec, pairDecided, pairDone, unlessRefused, adjustFrom, adjustSpec}
 use Rattle.store_definitions.specs.WellFormed.{classTable, wellFormed}
 use Rattle.store_laws.specs.Sound.{Sound, sound, sound-make}
 use Rattle.store_laws.specs.Cases.{either, by-cases}
@@ -149,7 +149,7 @@ module _ {E : Type 0} where
       split true s d = s
       split false s d = dec-accepted (incremented p (q .insertIndex) (q .insertLabel)) (q .deleteIndex) (q .deleteLabel) s d
 
-  pair-carried : (P : PointStore E → Type 0) (d : Decided) (p : PointStore E) (before : ℕ) (rest : PointStore E → Outcome E) (r : PointStore E) → P p → (d ≡ go → P (rest r .after)) → P (pairCarriedOut d p before rest r .after)
+  pair-carried : (P : PointStore E → Type 0) (d : Decided) (p : PointStore E) (before : ℕ) (rest : PointStore E → Outcome E) (r : PointStore E) → P p → (d ≡ go → P (rest r .after)) → P (unlessRefused d before p (rest r) .after)
   pair-carried P go p before rest r h f = f refl
   pair-carried P (refuse n) p before rest r h f = h
 
@@ -158,7 +158,7 @@ module _ {E : Type 0} where
   unfolding adjustFrom
   adjust-sound before [] p w = w
   adjust-sound before (q ∷ qs) p w =
-      either (λ o. Sound (o .after)) (eqb (q .insertIndex) none) (adjustFrom (suc before) qs p) (pairCarriedOut (pairDecided p q) p before (adjustFrom (suc before) qs) (pairDone p q))
+      either (λ o. Sound (o .after)) (eqb (q .insertIndex) none) (adjustFrom (suc before) qs p) (unlessRefused (pairDecided p q) before p (adjustFrom (suc before) qs (pairDone p q)))
       (adjust-sound (suc before) qs p w)
       (pair-carried Sound (pairDecided p q) p before (adjustFrom (suc before) qs) (pairDone p q) w
       (λ e. adjust-sound (suc before) qs (pairDone p q) (pair-accepted p q w e)))
