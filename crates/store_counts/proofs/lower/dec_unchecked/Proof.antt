@@ -4,8 +4,8 @@ use mathlib.Core.Path.{refl}
 use Rattle.store_definitions.specs.Memory.{pointStore}
 use Rattle.store_check.specs.Tables.{tables}
 use Rattle.store_counts.specs.CallLaws.{dec-goes, dec-went, dec-refused}
-use Rattle.store_counts.proofs.lower.dec_well_formed.Statement.{statement}
-use Rattle.store_counts.proofs.lower.dec_well_formed.Tie as tie
+use Rattle.store_counts.proofs.lower.dec_unchecked.Statement.{statement}
+use Rattle.store_counts.proofs.lower.dec_unchecked.Tie as tie
 
 dec-test-requires : tie.Need-dec-test-requires
 dec-test-requires c κs = tt
@@ -70,5 +70,5 @@ returns-2 c =
     let p = pointStore (a .s) (tables (a .floats) (a .window) (a .reference-count) (a .location) (a .index-starts) (a .index-ends) (a .labels) (a .label-attributes) (a .label-count) (a .label-starts) (a .label-ends) (a .attributes) (a .attribute-count) (a .attribute-starts) (a .attribute-ends)) in
     dec-went p (a .index .0) (a .label .0) (c .before .before .before .before .before .before .before .before .before .before .before .before .before .before .before .before .before .before .before .before .before .before .before .before .before .before .before .before .before .before .before .before .before .before .before .before .before .before .before .before .before .before .before .before .before .before .before .before .before .pre) _ (c .before .before .before .before .before .before .before .before .before .before .before .before .before .before .before .before .before .before .before .before .before .before .before .before .before .before .before .before .before .before .before .before .before .dec-test .ensures) (c .before .before .before .before .before .before .before .before .before .before .before .before .before .before .before .before .before .before .before .before .before .before .before .before .before .before .before .before .before .before .before .enum-told .given .1) _ (c .before .before .before .before .before .before .before .before .before .before .before .before .before .before .before .before .before .before .before .before .dec-accepted .ensures)
 
-pub dec-well-formed-spec : {M : Type 1} → statement M
-dec-well-formed-spec = tie.close (tie.spec dec-test-requires enum-known-d enum-told dec-accepted-requires same-length same-length-2 returns same-length-3 same-length-4 same-length-5 same-length-6 same-length-7 same-length-8 same-length-9 same-length-10 same-length-11 same-length-12 returns-2)
+pub dec-unchecked-spec : {M : Type 1} → statement M
+dec-unchecked-spec = tie.close (tie.spec dec-test-requires enum-known-d enum-told dec-accepted-requires same-length same-length-2 returns same-length-3 same-length-4 same-length-5 same-length-6 same-length-7 same-length-8 same-length-9 same-length-10 same-length-11 same-length-12 returns-2)

@@ -10,8 +10,8 @@ use Rattle.store_definitions.specs.Answers.{doneMeans}
 use Rattle.store_definitions.specs.Memory.{pointStore}
 use Rattle.store_adjust.specs.Pairs.{listed}
 use Rattle.store_adjust.specs.Run.{State, start, stop, next, finish}
-use Rattle.store_adjust.proofs.adjust_well_formed.Statement.{statement}
-use Rattle.store_adjust.proofs.adjust_well_formed.Tie as tie
+use Rattle.store_adjust.proofs.adjust_unchecked.Statement.{statement}
+use Rattle.store_adjust.proofs.adjust_unchecked.Tie as tie
 
 abbrev Inv-loop : tie.InvT-loop
 Inv-loop floats window referenceCount₀ location₀ indexStarts₀ indexEnds₀ labels labelAttributes labelCount₀ labelStarts₀ labelEnds₀ attributes attributeCount₀ attributeStarts₀ attributeEnds₀ pairs s₀ i₀ referenceCount location indexStarts indexEnds labelCount labelStarts labelEnds attributeCount attributeStarts attributeEnds s i =
@@ -138,5 +138,5 @@ same-length-20 c = c .before .loop .inv .same .slotEnds
 returns-2 : tie.Need-returns-2 Inv-loop μ-loop
 returns-2 c = finish _ _ _ _ (c .before .loop .inv) (c .loop-test .left)
 
-pub adjust-well-formed-spec : {M : Type 1} → statement M
-adjust-well-formed-spec = tie.close (tie.spec Inv-loop μ-loop loop-holds mul-pair shared-slice-copy-out-pair array-read-adjust-pair array-read-adjust-pair-2 array-read-adjust-pair-3 array-read-adjust-pair-4 adjust-pair-requires enum-known-answer same-length same-length-2 same-length-3 same-length-4 same-length-5 same-length-6 same-length-7 same-length-8 same-length-9 same-length-10 returns enum-told add-i loop-less loop-again same-length-11 same-length-12 same-length-13 same-length-14 same-length-15 same-length-16 same-length-17 same-length-18 same-length-19 same-length-20 returns-2)
+pub adjust-unchecked-spec : {M : Type 1} → statement M
+adjust-unchecked-spec = tie.close (tie.spec Inv-loop μ-loop loop-holds mul-pair shared-slice-copy-out-pair array-read-adjust-pair array-read-adjust-pair-2 array-read-adjust-pair-3 array-read-adjust-pair-4 adjust-pair-requires enum-known-answer same-length same-length-2 same-length-3 same-length-4 same-length-5 same-length-6 same-length-7 same-length-8 same-length-9 same-length-10 returns enum-told add-i loop-less loop-again same-length-11 same-length-12 same-length-13 same-length-14 same-length-15 same-length-16 same-length-17 same-length-18 same-length-19 same-length-20 returns-2)

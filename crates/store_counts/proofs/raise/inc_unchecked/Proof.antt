@@ -4,8 +4,8 @@ use mathlib.Core.Path.{refl}
 use Rattle.store_definitions.specs.Memory.{pointStore}
 use Rattle.store_check.specs.Tables.{tables}
 use Rattle.store_counts.specs.CallLaws.{inc-goes, inc-went, inc-refused}
-use Rattle.store_counts.proofs.raise.inc_well_formed.Statement.{statement}
-use Rattle.store_counts.proofs.raise.inc_well_formed.Tie as tie
+use Rattle.store_counts.proofs.raise.inc_unchecked.Statement.{statement}
+use Rattle.store_counts.proofs.raise.inc_unchecked.Tie as tie
 
 inc-test-requires : tie.Need-inc-test-requires
 inc-test-requires c κs = tt
@@ -49,5 +49,5 @@ returns-2 c =
     let p = pointStore (a .s) (tables (a .floats) (a .window) (a .reference-count) (a .location) (a .index-starts) (a .index-ends) (a .labels) (a .label-attributes) (a .label-count) (a .label-starts) (a .label-ends) (a .attributes) (a .attribute-count) (a .attribute-starts) (a .attribute-ends)) in
     inc-went p (a .index .0) (a .label .0) (c .before .before .before .before .before .before .before .before .before .before .before .before .before .before .before .before .before .before .before .before .before .before .before .before .before .before .before .before .pre) _ (c .before .before .before .before .before .before .before .before .before .before .before .before .inc-test .ensures) (c .before .before .before .before .before .before .before .before .before .before .enum-told .given .1) _ (c .before .before .before .before .before .before .inc-accepted .ensures)
 
-pub inc-well-formed-spec : {M : Type 1} → statement M
-inc-well-formed-spec = tie.close (tie.spec inc-test-requires enum-known-d enum-told inc-accepted-requires same-length same-length-2 returns same-length-3 same-length-4 same-length-5 returns-2)
+pub inc-unchecked-spec : {M : Type 1} → statement M
+inc-unchecked-spec = tie.close (tie.spec inc-test-requires enum-known-d enum-told inc-accepted-requires same-length same-length-2 returns same-length-3 same-length-4 same-length-5 returns-2)
