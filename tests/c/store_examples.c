@@ -168,6 +168,19 @@ static void float_space(void) {
     kept(0, 1, 2, 8);
 }
 
+/* a row laid whole is turned by where the free start was */
+static void turned_whole(void) {
+    IS(opened(4, 2, 10, 5, 1, 1, 0), 0);
+    IS(add_two(1, 2, 0), 0);
+    IS(add_two(3, 4, 0), 0);
+    IS(ps_store_dec(&s, 0, PS_NONE), 0);
+    IS(ps_store_compact(&s), 0);
+    IS(add_two(5, 6, 0), 0);
+    kept(0, 0, 0, 4);
+    IS(ps_store_copy(&s, 0, out, 4), 0);
+    IS(row_is(out, 3, 4, 5, 6), 1);
+}
+
 /* the other readings, without rotation and with it */
 static void readings(int rotation) {
     static const float row[4] = {3, 4, 5, 6}, turned[4] = {5, 6, 3, 4}, point[3] = {7, 8, 9};
@@ -263,6 +276,7 @@ int main(void) {
     counting();
     compaction();
     float_space();
+    turned_whole();
     readings(0);
     readings(1);
     labels();
