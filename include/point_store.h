@@ -206,7 +206,7 @@ uint64_t ps_missing_indices(const uint64_t *words, size_t words_len, PS_READ_,
 uint64_t ps_next_indices(const uint64_t *words, size_t words_len, PS_READ_,
     size_t look_ahead, size_t *out, size_t out_len);
 uint64_t ps_label(const uint64_t *words, size_t words_len, PS_READ_, size_t label, uint64_t *code);
-uint64_t ps_attribute(const uint64_t *words, size_t words_len, PS_READ_, size_t label, uint64_t *attribute);
+uint64_t ps_attribute(const uint64_t *words, size_t words_len, PS_READ_, size_t label, uint64_t *class_);
 uint64_t ps_attribute_vec(const uint64_t *words, size_t words_len, PS_READ_,
     size_t label, float *out, size_t out_len);
 
@@ -560,10 +560,10 @@ static inline uint64_t ps_store_label(const struct ps_store *s, size_t label, ui
 }
 
 /* The class of its code, 0 to 9. Refused with 1, 6. */
-static inline uint64_t ps_store_attribute(const struct ps_store *s, size_t label, uint64_t *attribute) {
-    if (!s || !attribute)
+static inline uint64_t ps_store_attribute(const struct ps_store *s, size_t label, uint64_t *class_) {
+    if (!s || !class_)
         return PS_ILL_FORMED;
-    return ps_attribute(PS_LENT_(s), label, attribute);
+    return ps_attribute(PS_LENT_(s), label, class_);
 }
 
 /* Its attribute slot as PS_ATTRIBUTE_FLOATS floats, 1.0 at slot mod 10, else 0.0. Refused with 1, 6, 3. */
