@@ -21,10 +21,12 @@ BUILT = target/c
 CHECKED = $(PROGRAMS:%.c=$(BUILT)/%.checked) $(patsubst %.c,$(BUILT)/%.cxx.checked,$(wildcard tests/c/*.c))
 CFLAGS ?= -O2
 WARNINGS = -Wall -Wextra -pedantic -Werror
-CARGO = cargo
+# make -j has cargo look for a jobserver that it is not handed
+CARGO = env -u MAKEFLAGS -u MFLAGS cargo
 
 .PHONY: all library check check-c check-declarations check-version check-name check-rust check-examples examples install uninstall clean
 .DELETE_ON_ERROR:
+.SECONDARY:
 
 all: library
 library: $(LIBRARY)
