@@ -33,6 +33,7 @@
  *   changes nothing and writes no answer, with two exceptions:
  *   - PS_FLOAT_SPACE_FULL (10) leaves floats, places, free start and store length as compaction and growth made them;
  *   - the pairs before an adjust's refused one stand, and how many they are is told.
+ *   A 1 can mean a store that was never opened, a slice too short, or contents that are no store: ps_store_state() tells which.
  *
  * What a caller owes
  *   - A length is true of its pointer: that many elements can be read there and, where the pointer is not const, written.
@@ -466,14 +467,18 @@ static inline uint64_t ps_store_dec(struct ps_store *s, size_t index, size_t lab
     return ps_dec(PS_CHANGED_(s), index, label);
 }
 
-/* A list of pairs in order. Where one is refused, those before it stand and `pairs_before` gets their number, skipped ones counted;
- * it is written on a refusal alone, and may be NULL. Refused with 1 and, pair by pair, as inc and then dec. */
+/* A list of pairs in order. Where one is refused, those before it stand and `pairs_before` gets their number, skipped ones counted (0
+ * for a 1 of the whole call). It is written on a refusal alone, and may be NULL. Refused with 1 and, pair by pair, as inc and dec. */
 static inline uint64_t ps_store_adjust(
     struct ps_store *s, const struct ps_pair *pairs, size_t pairs_len, uint64_t *pairs_before) {
     uint64_t untold;
-    if (!s || PS_MISSING_(pairs, pairs_len))
+    if (!pairs_before)
+        pairs_before = &untold;
+    if (!s || PS_MISSING_(pairs, pairs_len)) {
+        *pairs_before = 0;
         return PS_ILL_FORMED;
-    return ps_adjust(PS_CHANGED_(s), (const size_t(*)[4])ps_address(pairs), pairs_len, pairs_before ? pairs_before : &untold);
+    }
+    return ps_adjust(PS_CHANGED_(s), (const size_t(*)[4])ps_address(pairs), pairs_len, pairs_before);
 }
 
 /* Brings the floats of live points together at the start. Refused with 1. */

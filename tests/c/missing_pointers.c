@@ -24,7 +24,7 @@ int main(void) {
     size_t numbers[BASE], values[BASE] = {0, 1};
     struct ps_pair pair = {0, 0, PS_NONE, PS_NONE};
     struct ps_item item = {0, 1};
-    uint64_t number = 77;
+    uint64_t number = 77, before_null = 77, before_list = 77;
 
     memset(&shape, 0, sizeof shape);
     shape.dimensions = DIMENSIONS;
@@ -47,7 +47,7 @@ int main(void) {
     SAY(ps_store_add(NULL, reading, BASE, 0, &added));
     SAY(ps_store_inc(NULL, 0, 0));
     SAY(ps_store_dec(NULL, 0, 0));
-    SAY(ps_store_adjust(NULL, &pair, 1, &number));
+    SAY(ps_store_adjust(NULL, &pair, 1, &before_null));
     SAY(ps_store_compact(NULL));
     SAY(ps_store_copy(NULL, 0, row, DIMENSIONS));
     SAY(ps_store_count(NULL, 0, &number));
@@ -69,7 +69,7 @@ int main(void) {
 
     printf("no list, of nonzero length\n");
     SAY(ps_store_add(&s, NULL, BASE, 0, &added));
-    SAY(ps_store_adjust(&s, NULL, 1, &number));
+    SAY(ps_store_adjust(&s, NULL, 1, &before_list));
     SAY(ps_store_is_equal(&s, 0, NULL, DIMENSIONS, &number));
     SAY(ps_store_point_sum(&s, NULL, 1, row, DIMENSIONS));
     SAY(ps_store_shingled_point(&s, NULL, BASE, row, DIMENSIONS));
@@ -98,6 +98,8 @@ int main(void) {
     printf("all this %s\n",
         memcmp(&kept, &s, sizeof s) == 0 && memcmp(before, block, sizeof block) == 0 && number == 77 ? "changed nothing"
                                                                                                     : "CHANGED SOMETHING");
+
+    printf("pairs before: %d, %d\n", (int)before_null, (int)before_list);
 
     printf("where NULL is taken\n");
     SAY(ps_store_adjust(&s, NULL, 0, NULL));
