@@ -24,7 +24,8 @@ WARNINGS = -Wall -Wextra -pedantic -Werror
 # make -j has cargo look for a jobserver that it is not handed
 CARGO = env -u MAKEFLAGS -u MFLAGS cargo
 
-.PHONY: all library check check-c check-declarations check-version check-name check-rust check-examples examples install uninstall clean
+.PHONY: all library check check-c check-declarations check-version check-archive check-rust check-examples examples \
+	install uninstall clean
 .DELETE_ON_ERROR:
 .SECONDARY:
 
@@ -37,7 +38,7 @@ $(LIBRARY): $(SOURCES)
 	touch $@
 
 check: check-c check-rust
-check-c: check-declarations check-version check-name $(CHECKED)
+check-c: check-declarations check-version check-archive $(CHECKED)
 check-examples: $(filter $(BUILT)/examples/%,$(CHECKED))
 examples: $(patsubst %.c,$(BUILT)/%,$(wildcard examples/c/*.c))
 
@@ -47,8 +48,10 @@ check-declarations:
 check-version:
 	include/check_version
 
-check-name: $(LIBRARY)
+# the name stands in it in one piece, and it needs no other functions than these two
+check-archive: $(LIBRARY)
 	strings -n 16 $(LIBRARY) | grep -q -F -f examples/c/store_name.stdout
+	! nm -u $(LIBRARY) | grep ' U ' | grep -v -w -e memcpy -e memset
 
 $(BUILT)/%.cxx: %.c include/point_store.h $(LIBRARY)
 	@mkdir -p $(@D)

@@ -6,9 +6,9 @@
  *
  * Terms
  *   point, row       what a store keeps: `dimensions` floats.
- *   shingle, window  with internal shingling a caller hands in one reading at a time and the store forms the points: a point is then
- *                    the window, the last `shingle size` readings one after another, oldest first. Without it a caller hands in
- *                    whole points.
+ *   shingle, window  with internal shingling a caller hands in one reading at a time and the store forms the points: a point is
+ *                    then the window, the last `shingle size` readings one after another, oldest first. Without it a caller hands
+ *                    in whole points.
  *   base             dimensions / shingle size: the floats of one reading.
  *   index            the number under which a point is kept, below `capacity`. It has a count, 1 after its add; it is live until
  *                    its count is 0 again, and is then given to a later add.
@@ -19,12 +19,13 @@
  *   growth           indices and floats are first those of `initial_capacity` points. An add that finds no index free, or no float
  *                    space after compacting, makes the table or the float space longer by a fifth, rounded down, up to `capacity`:
  *                    a table of fewer than 5 indices therefore stays as it is.
- *   compaction       brings the floats of live points together at the start. Indices and copies stay, places and free start fall.
+ *   compaction       brings the floats of live points together at the start. Indices and copies stay; places and free start fall, or
+ *                    stay where there is nothing to gain.
  *   rotation, turned with rotation a copy is turned: stored float i comes out as entry (i + place x base) mod dimensions, so that a
  *                    reading stands in the same entries of every window that has it.
- *   label, class     with labels on, an add carries a code of 0 to 23, which says why the point is kept. Each code has a class: 0 to
- *                    23 are of class 0,0,0,1,1,2,2,2,3,3,4,4,5,5,5,6,6,6,7,7,8,8,9,9. A kept add gets a label index, counted like
- *                    the index.
+ *   label, class     with labels on, an add carries a code of 0 to 23, which says why the point is kept. Each code has a class: 0
+ *                    to 23 are of class 0,0,0,1,1,2,2,2,3,3,4,4,5,5,5,6,6,6,7,7,8,8,9,9. A kept add gets a label index, counted
+ *                    like the index.
  *   attribute slot   an entry that the labels of one class share while any of them is live; its number is that of the table entry
  *                    that was free when the first of them came.
  *
@@ -45,9 +46,9 @@
  *   functions ps_store_.. below refuse NULL with 1 too; the functions that they call, declared first, ask for pointers that are not
  *   NULL, even where the length is 0.
  *
- * A store is a record of PS_RECORD_WORDS words and fifteen lent slices (struct ps_store). They belong to the caller and are handed to
- * each call as the last one left them. They hold no address of each other: record and slices may be copied or moved, together and
- * between calls, to other memory or to a file and back; `memory` then names the new slices.
+ * A store is a record of PS_RECORD_WORDS words and fifteen lent slices (struct ps_store). They belong to the caller and are handed
+ * to each call as the last one left them. They hold no address of each other: record and slices may be copied or moved, together
+ * and between calls, to other memory or to a file and back; `memory` then names the new slices.
  *
  * The check for 1 is no check against corruption. A call cut short (by a signal handler that does not return, a reset, a loss of
  * power) or a fault of the memory can leave a store that is well-formed and wrong. Who needs that keeps a copy of record and slices
