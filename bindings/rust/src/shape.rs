@@ -98,10 +98,10 @@ impl Shape {
         }
     }
 
-    /// How many words of 64 bits a block for [`LentMemory::in_block`] has, for a shape within the
+    /// How many words of 64 bits a block for [`LentMemory::in_block`] has; 0 for a shape outside the
     /// bounds.
     pub fn block_words(&self) -> usize {
-        block_words(self)
+        self.check().map_or(0, |()| block_words(self))
     }
 
     /// Opens a store that owns its memory.
@@ -115,9 +115,10 @@ impl Shape {
         LentPointStore::open(memory, self)
     }
 
+    /// For a shape within the bounds.
     pub(crate) fn lengths(&self) -> Lengths {
         Lengths {
-            floats: self.capacity.saturating_mul(self.dimensions),
+            floats: self.capacity * self.dimensions,
             dimensions: self.dimensions,
             capacity: self.capacity,
             labels: if self.store_labels { self.capacity } else { 0 },

@@ -127,6 +127,7 @@ fn a_short_block_or_a_bad_shape_lends_nothing() {
         Shape::new(NONE, NONE),
     ] {
         assert_eq!(bad.check(), Err(Refusal::Shape));
+        assert_eq!(bad.block_words(), 0);
         assert_eq!(bad.open().map(|_| ()), Err(Refusal::Shape));
         assert_eq!(
             LentMemory::in_block(&mut block, &bad).unwrap_err(),
