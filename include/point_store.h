@@ -21,8 +21,8 @@
  *                    a table of fewer than 5 indices therefore stays as it is.
  *   compaction       brings the floats of live points together at the start. Indices and copies stay; places and free start fall, or
  *                    stay where there is nothing to gain.
- *   rotation, turned with rotation a copy is turned: stored float i comes out as entry (i + place x base) mod dimensions, so that a
- *                    reading stands in the same entries of every window that has it.
+ *   rotation, turned with rotation a copy is turned: stored float i comes out as entry (i + place x base) mod dimensions. Rows that
+ *                    join one another then show a reading in the same entries, until a row is laid whole at another turn.
  *   label, class     with labels on, an add carries a code of 0 to 23, which says why the point is kept. Each code has a class: 0
  *                    to 23 are of class 0,0,0,1,1,2,2,2,3,3,4,4,5,5,5,6,6,6,7,7,8,8,9,9. A kept add gets a label index, counted
  *                    like the index.
