@@ -1,6 +1,6 @@
 -- Each way out is one of the laws of `SumLaws`.
 use borrow.Author.Needs.{needs}
-use mathlib.Core.List.{List}
+use mathlib.Core.List.{List, []}
 use mathlib.Core.Path.{sym, ap, _∙_}
 use lib.Ieee.{Float}
 use lib.ListN.{length}
