@@ -16,7 +16,7 @@ use Rattle.store_definitions.specs.declared.Item.{Item}
 use Rattle.store_definitions.specs.Memory.{PointStore, pointStore, rowsAlone}
 use Rattle.store_definitions.specs.Answers.{Answer, done, refused, Output, output}
 use Rattle.store_definitions.specs.Decisions.{andThen, writes}
-use Rattle.store_definitions.specs.Sums.{Weighted, itemsDecided, storedRow, summed, pointSumSpec}
+use Rattle.store_definitions.specs.Sums.{Weighted, itemsDecided, storedRow, summed, sumWritten, pointSumSpec}
 use Rattle.store_definitions.specs.WellFormed.{wellFormed}
 use Rattle.store_laws.specs.DecisionLaws.{both-go}
 use Rattle.store_rows.specs.Copying.{readable}
@@ -105,7 +105,7 @@ module _ {E S : Type 0} (add : ℕ → List S → List E → List S) (zeroSum : 
 
   module _ (e : wellFormed p ≡ true) (l : length out₀ ≡ p .header .dimensions) where
     all-ahead : ahead false 0 out₀ ≡ spec
-    unfolding pointSumSpec
+    unfolding pointSumSpec sumWritten
     all-ahead = rw (well p e, eq-eqb (length out₀) (p .header .dimensions) l)
 
     none-ahead : (ys : List Item) → length ys ≡ 0 → writes (itemsDecided p (weightingsOf ys)) out₀ (summed add p (weightingsOf ys) zeros) ≡ output done zeros
