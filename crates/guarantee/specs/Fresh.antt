@@ -1,5 +1,5 @@
 -- A fresh store stands to the empty history as the invariant says.
-use Prim.Native.Nat.{ℕ, zero, suc, _*_, _-_, _/_, _≤_, _<_}
+use Prim.Native.Nat.{ℕ, zero, suc, _*_, _-_, _/_, _≤_}
 use native.Mathlib.Omega.{arith}
 use mathlib.Core.Bool.{Bool, false≢true}
 use mathlib.Core.List.{List, []}
