@@ -4,8 +4,11 @@ ghost use mathlib.Core.List.{[], _∷_};
 ghost use Rattle.placement.specs.Laying.{placeOf};
 ghost use Rattle.store_definitions.specs.Answers.{addedMeans, adjustedMeans, doneMeans, equalityMeans, numberMeans};
 ghost use Rattle.point_store_c.specs.ExportedStore.{joinedNumber, read, exportedReading};
+ghost use Rattle.point_store_c.specs.Records.{recorded};
+use crate::record::store_out;
 use placement::Laid;
 use store_definitions::Added;
+use store_definitions::AdjustResult;
 use store_definitions::Adjusted;
 use store_definitions::Done;
 use store_definitions::Equality;
@@ -45,7 +48,7 @@ pub fn equality_out(answer: Equality, equal: &mut u64) -> u64
     }
 }
 
-pub fn adjusted_out(answer: Adjusted, pairs_before: &mut u64) -> u64
+fn adjusted_out(answer: Adjusted, pairs_before: &mut u64) -> u64
     ensures { λ r. ⌜ read r (now («pairs_before» .exit) ∷ []) ≡ exportedReading (now («pairs_before» .entry) ∷ []) (adjustedMeans answer) ⌝ }
 {
     match answer {
@@ -55,6 +58,16 @@ pub fn adjusted_out(answer: Adjusted, pairs_before: &mut u64) -> u64
             refusal_number(why)
         }
     }
+}
+
+// The record after an adjust, and its answer.
+pub fn adjust_out(words: &mut [u64], result: AdjustResult, pairs_before: &mut u64) -> u64
+    ensures { λ r. ⌜ (now (words .exit) ≡ recorded (now (words .entry)) (result .store)) × (read r (now («pairs_before» .exit) ∷ []) ≡ exportedReading (now («pairs_before» .entry) ∷ []) (adjustedMeans (result .answer))) ⌝ }
+{
+    let after = result.store;
+    let answer = result.answer;
+    store_out(words, after);
+    adjusted_out(answer, pairs_before)
 }
 
 // Whether the row was joined, and its place.

@@ -4,14 +4,16 @@ ghost use mathlib.Core.List.{[], _∷_};
 ghost use Rattle.store_definitions.specs.Counting.{incSpec, decSpec, adjustSpec, countSpec, liveNumberSpec, freeStartSpec};
 ghost use Rattle.store_definitions.specs.Lent.{entered, left};
 ghost use Rattle.store_definitions.specs.Memory.{pointStore};
-ghost use Rattle.store_adjust.specs.Pairs.{pairings};
+ghost use Rattle.store_adjust_pairs.specs.Records.{pairingsOf};
 ghost use Rattle.point_store_c.specs.ExportedStore.{exported, exportedCall, read, exportedReading};
 ghost use Rattle.point_store_c.specs.Records.{storeIn};
-use crate::answers::adjusted_out;
+use crate::answers::adjust_out;
 use crate::answers::done_number;
 use crate::answers::number_out;
+use crate::record::lent_store_in;
 use crate::record::store_in;
 use crate::record::store_out;
+use store_definitions::Pair;
 use terms::LabelIndex;
 use terms::PointIndex;
 
@@ -117,31 +119,32 @@ pub extern "C" fn ps_dec(
     done_number(answer)
 }
 
+// Over the caller's own records. A function that holds them is walked by hand, so all else is in the functions that it calls.
 #[no_mangle]
 pub extern "C" fn ps_adjust(
     words: &mut [u64],
-    store: &[u32],
-    last_known_shingle: &[u32],
+    store: &mut [u32],
+    last_known_shingle: &mut [u32],
     reference_count: &mut [u16],
     location: &mut [u16],
     index_starts: &mut [u16],
     index_ends: &mut [u16],
-    labels: &[u8],
-    label_attributes: &[u16],
+    labels: &mut [u8],
+    label_attributes: &mut [u16],
     label_count: &mut [u16],
     label_starts: &mut [u16],
     label_ends: &mut [u16],
-    attributes: &[u8],
+    attributes: &mut [u8],
     attribute_count: &mut [u32],
     attribute_starts: &mut [u16],
     attribute_ends: &mut [u16],
-    pairs: &[[usize; 4]],
+    pairs: &[Pair],
     pairs_before: &mut u64,
 ) -> u64
-    ensures { λ r. ⌜ exported r (now (words .exit)) (now («pairs_before» .exit) ∷ []) (left store «last_known_shingle» «reference_count» location «index_starts» «index_ends» labels «label_attributes» «label_count» «label_starts» «label_ends» attributes «attribute_count» «attribute_starts» «attribute_ends») ≡ exportedCall (now (words .entry)) (now («pairs_before» .entry) ∷ []) (adjustSpec (pointStore (storeIn (now (words .entry))) (entered store «last_known_shingle» «reference_count» location «index_starts» «index_ends» labels «label_attributes» «label_count» «label_starts» «label_ends» attributes «attribute_count» «attribute_starts» «attribute_ends»)) (pairings (now (pairs .entry)))) ⌝ }
+    ensures { λ r. ⌜ exported r (now (words .exit)) (now («pairs_before» .exit) ∷ []) (left store «last_known_shingle» «reference_count» location «index_starts» «index_ends» labels «label_attributes» «label_count» «label_starts» «label_ends» attributes «attribute_count» «attribute_starts» «attribute_ends») ≡ exportedCall (now (words .entry)) (now («pairs_before» .entry) ∷ []) (adjustSpec (pointStore (storeIn (now (words .entry))) (entered store «last_known_shingle» «reference_count» location «index_starts» «index_ends» labels «label_attributes» «label_count» «label_starts» «label_ends» attributes «attribute_count» «attribute_starts» «attribute_ends»)) (pairingsOf (now (pairs .entry)))) ⌝ }
 {
-    let s = store_in(words);
-    let result = store_adjust::adjust_plain(
+    let s = lent_store_in(words);
+    let result = store_adjust_pairs::adjust_count(
         s,
         store,
         last_known_shingle,
@@ -160,10 +163,7 @@ pub extern "C" fn ps_adjust(
         attribute_ends,
         pairs,
     );
-    let after = result.store;
-    let answer = result.answer;
-    store_out(words, after);
-    adjusted_out(answer, pairs_before)
+    adjust_out(words, result, pairs_before)
 }
 
 #[no_mangle]

@@ -8,12 +8,13 @@ ghost use Rattle.store_definitions.specs.Lent.{entered};
 ghost use Rattle.store_definitions.specs.Memory.{pointStore};
 ghost use Rattle.store_definitions.specs.Preview.{shingledPointSpec};
 ghost use Rattle.store_definitions.specs.Sums.{isEqualSpec, pointSumSpec};
-ghost use Rattle.row_readings.specs.Items.{weightings};
+ghost use Rattle.store_sum_items.specs.Records.{weightingsOf};
 ghost use Rattle.point_store_c.specs.ExportedStore.{read, exportedReading, written, exportedOutput};
 ghost use Rattle.point_store_c.specs.Records.{storeIn};
 use crate::answers::done_number;
 use crate::answers::equality_out;
 use crate::record::store_in;
+use store_definitions::Item;
 use terms::PointIndex;
 
 // 1 where the row's copy and the point are equal, else 0.
@@ -66,6 +67,7 @@ pub extern "C" fn ps_is_equal(
     equality_out(answer, equal)
 }
 
+// Over the caller's own records. A function that holds them is walked by hand, so all else is in the functions that it calls.
 #[no_mangle]
 pub extern "C" fn ps_point_sum(
     words: &[u64],
@@ -84,13 +86,13 @@ pub extern "C" fn ps_point_sum(
     attribute_count: &[u32],
     attribute_starts: &[u16],
     attribute_ends: &[u16],
-    items: &[[usize; 2]],
+    items: &[Item],
     out: &mut [f32],
 ) -> u64
-    ensures { λ r. ⌜ written r (now (out .exit)) ≡ exportedOutput (pointSumSpec addScaled (floatOf plusZero) (pointStore (storeIn (now (words .entry))) (entered store «last_known_shingle» «reference_count» location «index_starts» «index_ends» labels «label_attributes» «label_count» «label_starts» «label_ends» attributes «attribute_count» «attribute_starts» «attribute_ends»)) (weightings (now (items .entry))) (now (out .entry))) ⌝ }
+    ensures { λ r. ⌜ written r (now (out .exit)) ≡ exportedOutput (pointSumSpec addScaled (floatOf plusZero) (pointStore (storeIn (now (words .entry))) (entered store «last_known_shingle» «reference_count» location «index_starts» «index_ends» labels «label_attributes» «label_count» «label_starts» «label_ends» attributes «attribute_count» «attribute_starts» «attribute_ends»)) (weightingsOf (now (items .entry))) (now (out .entry))) ⌝ }
 {
     let s = store_in(words);
-    let answer = store_readings::point_sum_plain(
+    let answer = store_sum_items::point_sum(
         s,
         store,
         last_known_shingle,

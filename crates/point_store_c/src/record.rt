@@ -29,6 +29,13 @@ pub fn store_in(words: &[u64]) -> Store
     no_record()
 }
 
+// The same of a record that is lent mutably, as a walk by hand lends what it lends again.
+pub fn lent_store_in(words: &mut [u64]) -> Store
+    ensures { λ r. ⌜ (r ≡ storeIn (now (words .entry))) × (now (words .exit) ≡ now (words .entry)) ⌝ }
+{
+    store_in(words)
+}
+
 // Of a legal record.
 fn store_read(words: &[u64]) -> Store
     requires { ⌜ (15 ≤ length (now words)) × (getD (now words) 8 0 < 4294967296) ⌝ }

@@ -71,18 +71,21 @@ pub enum Equality {
 }
 
 // A point index with a label index: what an inc or a dec takes.
+#[repr(C)]
 pub struct Change {
     pub index: PointIndex,
     pub label: LabelIndex,
 }
 
 // One pair of an adjust list.
+#[repr(C)]
 pub struct Pair {
     pub insert: Change,
     pub delete: Change,
 }
 
 // One item of a sum's list.
+#[repr(C)]
 pub struct Item {
     pub index: PointIndex,
     pub weight: usize,

@@ -22,9 +22,11 @@ pub enum Refusal {
 }
 
 // The index of a point. A tuple struct of its own, so that a label's index cannot stand in its place.
+#[repr(C)]
 pub struct PointIndex(pub usize);
 
 // The index of a label.
+#[repr(C)]
 pub struct LabelIndex(pub usize);
 
 // A binary32 float, held as its 32 bits.

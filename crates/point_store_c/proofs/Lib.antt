@@ -1,0 +1,2 @@
+mod AdjustParameters
+mod SumParameters
