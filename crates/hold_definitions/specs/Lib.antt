@@ -1,0 +1,10 @@
+pub mod Memory
+pub mod Listed
+pub mod WellFormed
+pub mod Opening
+pub mod Adding
+pub mod Readings
+pub mod CountsAfter
+pub mod Sound
+pub mod NamesLaws
+pub mod AddingLaws
