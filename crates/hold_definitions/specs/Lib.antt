@@ -8,3 +8,5 @@ pub mod CountsAfter
 pub mod Sound
 pub mod NamesLaws
 pub mod AddingLaws
+pub mod OpeningLaws
+pub mod Cases
