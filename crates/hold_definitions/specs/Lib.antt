@@ -4,8 +4,10 @@ pub mod WellFormed
 pub mod Opening
 pub mod Adding
 pub mod Readings
+pub mod Lent
 pub mod CountsAfter
 pub mod Sound
+pub mod ReadingLaws
 pub mod NamesLaws
 pub mod AddingLaws
 pub mod OpeningLaws
