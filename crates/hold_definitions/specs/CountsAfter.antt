@@ -187,8 +187,12 @@ module _ {E : Type 0} (eq : E → E → Bool) (zeroElement : E) (p : PointStore 
           label-list = refl;
         }
 
+    -- how many indices growth brings at least
+    abbrev least : ℕ
+    least = 0
+
     abbrev longer : ℕ
-    longer = grown (tableLength u) 0 (u .capacity)
+    longer = grown (tableLength u) least (u .capacity)
 
     abbrev grownTable : Counted
     grownTable =
@@ -201,7 +205,7 @@ module _ {E : Type 0} (eq : E → E → Bool) (zeroElement : E) (p : PointStore 
     grown-counts none location j =
         let n = tableLength u in
         let up : n < longer = can-grow u (w .table-within) (k .not-full) none in
-        let most : longer ≤ u .capacity = grown-within n 0 (u .capacity) (w .table-within) .1 in
+        let most : longer ≤ u .capacity = grown-within n least (u .capacity) (w .table-within) .1 in
         let lent : longer ≤ length (p .memory .referenceCount) = omega (arith, w .lent .counts-lent) in
         rw (grown-ready p w longer up most .well .whole)
         (elim (decLt j n) [
@@ -216,7 +220,7 @@ module _ {E : Type 0} (eq : E → E → Bool) (zeroElement : E) (p : PointStore 
     grown-gained : u .«index_manager» .last_in_use ≡ 0 → (location : List ℕ) → PointGained (placed (withPoints grownTable location laid) place) (nextIndex grownTable) (l .labelTable .counts)
     grown-gained none location =
         let n = tableLength u in
-        let ready = grown-ready p w longer (can-grow u (w .table-within) (k .not-full) none) (grown-within n 0 (u .capacity) (w .table-within) .1) in
+        let ready = grown-ready p w longer (can-grow u (w .table-within) (k .not-full) none) (grown-within n least (u .capacity) (w .table-within) .1) in
         table-gained grownTable location (rw (ready .well .whole) (ready .well)) (ready .some) (grown-counts none location)
 
     same-counts : (j : ℕ) → countNow laid j ≡ countNow p j
