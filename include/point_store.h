@@ -1,18 +1,58 @@
 /*
- * The proved point store: a store of float windows with counted indices, over memory that the caller lends.
+ * The proved point store: windows of float readings with counted indices, over memory that the caller lends.
  *
- * C99 and C++. Link with libpoint_store_c.a (x86-64). Nothing is allocated, no state is kept between calls, and every call
- * answers: 0, or one of the refusal numbers below. A refused call changes nothing and writes no answer, with two exceptions:
+ * C99 and C++, x86-64. Link with libpoint_store_c.a, which needs memcpy and memset and nothing else. Nothing is allocated and no
+ * state is kept between calls. docs/STORE.md in the repository says at length what the store does; this page says how to call it.
+ *
+ * Terms
+ *   point, row       what a store keeps: `dimensions` floats.
+ *   shingle, window  with internal shingling a caller hands in one reading at a time and the store forms the points: a point is
+ *                    then the window, the last `shingle size` readings one after another, oldest first. Without it a caller hands
+ *                    in whole points.
+ *   base             dimensions / shingle size: the floats of one reading.
+ *   index            the number under which a point is kept, below `capacity`. It has a count, 1 after its add; it is live until
+ *                    its count is 0 again, and is then given to a later add.
+ *   place            where a live point's floats stand, in units of base: its row begins at float place x base of the lent floats.
+ *                    65,535 is the empty place.
+ *   joined, whole    a row whose first floats equal the last ones before the free start shares them and is joined: only its last
+ *                    base floats are written. Else it is laid whole. The free start is the float at which the next row is written.
+ *   growth           indices and floats are first those of `initial_capacity` points. An add that finds no index free, or no float
+ *                    space after compacting, makes the table or the float space longer by a fifth, rounded down, up to `capacity`:
+ *                    a table of fewer than 5 indices therefore stays as it is.
+ *   compaction       brings the floats of live points together at the start. Indices and copies stay; places and free start fall, or
+ *                    stay where there is nothing to gain.
+ *   rotation, turned with rotation a copy is turned: stored float i comes out as entry (i + place x base) mod dimensions. Rows that
+ *                    join one another then show a reading in the same entries, until a row is laid whole at another turn.
+ *   label, class     with labels on, an add carries a code of 0 to 23, which says why the point is kept. Each code has a class: 0
+ *                    to 23 are of class 0,0,0,1,1,2,2,2,3,3,4,4,5,5,5,6,6,6,7,7,8,8,9,9. A kept add gets a label index, counted
+ *                    like the index.
+ *   attribute slot   an entry that the labels of one class share while any of them is live; its number is that of the table entry
+ *                    that was free when the first of them came.
+ *
+ * What a call returns
+ *   0 (PS_OK), or one of the refusal numbers below, the first that applies in the order that stands at the call. A refused call
+ *   changes nothing and writes no answer, with two exceptions:
  *   - PS_FLOAT_SPACE_FULL (10) leaves floats, places, free start and store length as compaction and growth made them;
  *   - the pairs before an adjust's refused one stand, and how many they are is told.
+ *   A 1 can mean a store that was never opened, a slice too short, or contents that are no store: ps_store_state() tells which.
  *
- * A store is a record of PS_RECORD_WORDS words and fifteen lent slices (struct ps_memory). Both belong to the caller and are
- * handed to each call as the last one left them. Slices must not overlap each other, the record, a point or an output; a
- * length must be true of its pointer. That is all that a caller owes: any number may stand in the record and in the slices, and
- * what is not a well-formed store is refused with 1.
+ * What a caller owes
+ *   - A length is true of its pointer: that many elements can be read there and, where the pointer is not const, written.
+ *   - A pointer is aligned for its type.
+ *   - What a call may write (record, slices, output, answer) overlaps nothing else that the call is handed.
+ *   - Two calls on one store do not run at once, unless both are readings (const struct ps_store *): any number of threads may read
+ *     one store. Distinct stores share nothing and may be used by threads of their own.
+ *   That is all: any number may stand in the record and in the slices, and what is not a well-formed store is refused with 1. The
+ *   functions ps_store_.. below refuse NULL with 1 too; the functions that they call, declared first, ask for pointers that are not
+ *   NULL, even where the length is 0.
  *
- * The functions ps_store_.. below take a struct ps_store and spread it; the functions that they call are declared first, with
- * every slice as a pointer and its length in elements.
+ * A store is a record of PS_RECORD_WORDS words and fifteen lent slices (struct ps_store). They belong to the caller and are handed
+ * to each call as the last one left them. They hold no address of each other: record and slices may be copied or moved, together
+ * and between calls, to other memory or to a file and back; `memory` then names the new slices.
+ *
+ * The check for 1 is no check against corruption. A call cut short (by a signal handler that does not return, a reset, a loss of
+ * power) or a fault of the memory can leave a store that is well-formed and wrong. Who needs that keeps a copy of record and slices
+ * from between two calls, with a checksum of their own.
  */
 #ifndef POINT_STORE_H
 #define POINT_STORE_H
@@ -23,6 +63,16 @@
 #ifdef __cplusplus
 extern "C" {
 #endif
+
+/* The version of this header. ps_version_agrees() tells whether the archive has the same. */
+#define PS_VERSION_MAJOR 0
+#define PS_VERSION_MINOR 2
+#define PS_VERSION_PATCH 0
+#define PS_VERSION "0.2.0"
+
+/* The sizes that the declarations below rely on; where one differs, the line does not compile. */
+typedef char ps_size_t_has_8_bytes[sizeof(size_t) == 8 ? 1 : -1];
+typedef char ps_float_has_4_bytes[sizeof(float) == 4 ? 1 : -1];
 
 /* What a call returns. */
 enum ps_refusal {
@@ -65,7 +115,7 @@ static inline const char *ps_refusal_text(uint64_t number) {
 }
 
 /* An index or a label index that is none. */
-#define PS_NONE SIZE_MAX
+#define PS_NONE ((size_t)-1)
 
 /* Bounds of a shape: dimensions 1 to 64, shingle size divides dimensions, capacity 1 to 1,024, capacity x dimensions at most
  * 16,384, starting capacity 1 to capacity; flags 0 or 1. */
@@ -85,23 +135,29 @@ static inline const char *ps_refusal_text(uint64_t number) {
 /* How much to lend for a shape. Longer slices are fine, what lies past is never touched. With labels off the nine label slices may
  * be empty (NULL of length 0).
  *   store                                                          PS_FLOATS(capacity, dimensions) floats
- *   last_known_shingle                                             dimensions floats
+ *   last_known_shingle, the window                                 dimensions floats
  *   reference_count, location, index_starts, index_ends            capacity entries each
  *   labels, label_attributes, label_count, label_starts, label_ends,
  *   attributes, attribute_count, attribute_starts, attribute_ends  PS_LABEL_ENTRIES(capacity, labels) entries each
+ * PS_LABEL_ENTRIES is 1 with labels off, since C has no array of length 0.
  */
 #define PS_FLOATS(capacity, dimensions) ((size_t)(capacity) * (size_t)(dimensions))
-#define PS_LABEL_ENTRIES(capacity, labels) ((labels) ? (size_t)(capacity) : (size_t)0)
+#define PS_LABEL_ENTRIES(capacity, labels) ((labels) ? (size_t)(capacity) : (size_t)1)
 
 /* Bytes to lend in all: floats and window, four tables of 16 bits, and with labels six of 16 bits, two of 8 and one of 32. */
 #define PS_BYTES(capacity, dimensions, labels) \
-    (4 * (PS_FLOATS(capacity, dimensions) + (size_t)(dimensions)) + 8 * (size_t)(capacity) \
-     + 18 * PS_LABEL_ENTRIES(capacity, labels))
+    (4 * (PS_FLOATS(capacity, dimensions) + (size_t)(dimensions)) + ((labels) ? (size_t)26 : (size_t)8) * (size_t)(capacity))
+
+/* The same as one block of bytes, wherever it begins: what ps_memory_in() below takes. */
+#define PS_MEMORY_BYTES(capacity, dimensions, labels) (PS_BYTES(capacity, dimensions, labels) + 3)
 
 /* The stack that a call needs at most, in bytes, whatever the shape. Only add and compact take more than two thirds of it. */
 #define PS_STACK 40960
 
-/* ---- The library's functions, slice by slice ---- */
+/* ---- The library's functions, slice by slice ----
+ *
+ * Each slice is a pointer and its length in elements. What these functions need beyond the above: every pointer is not NULL, that of
+ * an empty slice too, and every answer's pointer is that of one uint64_t. A record of fewer words than it has is refused with 1. */
 
 /* The fifteen slices as parameters, in the order of struct ps_memory. Those of a reading call are const; a
  * call that changes the store writes the tables that it changes, and no other. */
@@ -152,18 +208,37 @@ uint64_t ps_missing_indices(const uint64_t *words, size_t words_len, PS_READ_,
 uint64_t ps_next_indices(const uint64_t *words, size_t words_len, PS_READ_,
     size_t look_ahead, size_t *out, size_t out_len);
 uint64_t ps_label(const uint64_t *words, size_t words_len, PS_READ_, size_t label, uint64_t *code);
-uint64_t ps_attribute(const uint64_t *words, size_t words_len, PS_READ_, size_t label, uint64_t *attribute);
+uint64_t ps_attribute(const uint64_t *words, size_t words_len, PS_READ_, size_t label, uint64_t *class_);
 uint64_t ps_attribute_vec(const uint64_t *words, size_t words_len, PS_READ_,
     size_t label, float *out, size_t out_len);
 
 #undef PS_WRITTEN_
 #undef PS_READ_
 
-/* The store's name, the port's source and commit and the version: PS_NAME_LENGTH characters, no end mark. */
-#define PS_NAME_LENGTH 56
-uint64_t ps_name(uint8_t *out, size_t out_len);
+/* The library's name, one line of ASCII: 'point store', the version, which requested changes it has, the source and commit that it is
+ * a port of, and the target. It goes to the front of `out`, without an end mark; what lies past it is left as it was, and
+ * `name_length` gets its length. Refused with 3 where `out` is too short; PS_NAME_BYTES is long enough for every version's. */
+#define PS_NAME_BYTES 256
+uint64_t ps_name(uint8_t *out, size_t out_len, uint64_t *name_length);
 
-/* ---- The interval manager by itself: a stack of free intervals over lent starts and ends ---- */
+/* Whether the archive that is linked has the version of this header: 1 or 0. */
+static inline int ps_version_agrees(void) {
+    static const char expected[] = "point store " PS_VERSION ";";
+    uint8_t name[PS_NAME_BYTES];
+    uint64_t length;
+    size_t i;
+    if (ps_name(name, PS_NAME_BYTES, &length) != PS_OK || length < sizeof expected - 1)
+        return 0;
+    for (i = 0; i + 1 < sizeof expected; i++)
+        if (name[i] != (uint8_t)expected[i])
+            return 0;
+    return 1;
+}
+
+/* ---- The interval manager by itself: a stack of free intervals over lent starts and ends ----
+ *
+ * `words` has PS_MANAGER_WORDS words, `starts` and `ends` at least `capacity` entries, on a change the new capacity. Opening and
+ * change are refused with 13, 1; get with 1, 9; release with 1, 14; the readings with 1. */
 
 uint64_t ps_manager_new(uint64_t *words, size_t words_len,
     uint16_t *starts, size_t starts_len, uint16_t *ends, size_t ends_len, size_t size);
@@ -216,7 +291,8 @@ struct ps_memory {
     size_t attribute_ends_len;
 };
 
-/* Set up `memory`, then open: the record's words are the library's to write. */
+/* Set up `memory`, by hand or with ps_memory_in(), then open: the record's words are the library's to write. A record of zeros is a
+ * store that was never opened: every call refuses it with 1. */
 struct ps_store {
     uint64_t words[PS_RECORD_WORDS];
     struct ps_memory memory;
@@ -234,10 +310,10 @@ struct ps_shape {
 
 /* What an accepted add answers. The last four are as they were while no point is kept. */
 struct ps_added {
-    uint64_t kept;        /* 1, or 0 while the window fills */
+    uint64_t kept;        /* 1, or 0 while the first window fills */
     uint64_t index;
     uint64_t label_index; /* PS_NONE with labels off */
-    uint64_t joined;      /* 1 where the row shares floats with the one before it */
+    uint64_t joined;      /* 1 where the row shares floats with those before it */
     uint64_t place;
 };
 
@@ -256,6 +332,9 @@ struct ps_item {
     size_t weight;
 };
 
+typedef char ps_pair_has_32_bytes[sizeof(struct ps_pair) == 32 ? 1 : -1];
+typedef char ps_item_has_16_bytes[sizeof(struct ps_item) == 16 ? 1 : -1];
+
 /* A slice of length 0 still needs an address that is not NULL. */
 static inline void *ps_address(const void *p) {
     static uint64_t nothing;
@@ -264,27 +343,102 @@ static inline void *ps_address(const void *p) {
 
 #define PS_SLICE_(type, pointer, length) (type *)ps_address(pointer), (pointer) ? (length) : 0
 
-#define PS_SPREAD_(s) \
-    (s)->words, PS_RECORD_WORDS, \
-    PS_SLICE_(uint32_t, (s)->memory.store, (s)->memory.store_len), \
-    PS_SLICE_(uint32_t, (s)->memory.last_known_shingle, (s)->memory.last_known_shingle_len), \
-    PS_SLICE_(uint16_t, (s)->memory.reference_count, (s)->memory.reference_count_len), \
-    PS_SLICE_(uint16_t, (s)->memory.location, (s)->memory.location_len), \
-    PS_SLICE_(uint16_t, (s)->memory.index_starts, (s)->memory.index_starts_len), \
-    PS_SLICE_(uint16_t, (s)->memory.index_ends, (s)->memory.index_ends_len), \
-    PS_SLICE_(uint8_t, (s)->memory.labels, (s)->memory.labels_len), \
-    PS_SLICE_(uint16_t, (s)->memory.label_attributes, (s)->memory.label_attributes_len), \
-    PS_SLICE_(uint16_t, (s)->memory.label_count, (s)->memory.label_count_len), \
-    PS_SLICE_(uint16_t, (s)->memory.label_starts, (s)->memory.label_starts_len), \
-    PS_SLICE_(uint16_t, (s)->memory.label_ends, (s)->memory.label_ends_len), \
-    PS_SLICE_(uint8_t, (s)->memory.attributes, (s)->memory.attributes_len), \
-    PS_SLICE_(uint32_t, (s)->memory.attribute_count, (s)->memory.attribute_count_len), \
-    PS_SLICE_(uint16_t, (s)->memory.attribute_starts, (s)->memory.attribute_starts_len), \
-    PS_SLICE_(uint16_t, (s)->memory.attribute_ends, (s)->memory.attribute_ends_len)
+#define PS_TABLES_(access, m) \
+    PS_SLICE_(access uint32_t, (m)->store, (m)->store_len), \
+    PS_SLICE_(access uint32_t, (m)->last_known_shingle, (m)->last_known_shingle_len), \
+    PS_SLICE_(access uint16_t, (m)->reference_count, (m)->reference_count_len), \
+    PS_SLICE_(access uint16_t, (m)->location, (m)->location_len), \
+    PS_SLICE_(access uint16_t, (m)->index_starts, (m)->index_starts_len), \
+    PS_SLICE_(access uint16_t, (m)->index_ends, (m)->index_ends_len), \
+    PS_SLICE_(access uint8_t, (m)->labels, (m)->labels_len), \
+    PS_SLICE_(access uint16_t, (m)->label_attributes, (m)->label_attributes_len), \
+    PS_SLICE_(access uint16_t, (m)->label_count, (m)->label_count_len), \
+    PS_SLICE_(access uint16_t, (m)->label_starts, (m)->label_starts_len), \
+    PS_SLICE_(access uint16_t, (m)->label_ends, (m)->label_ends_len), \
+    PS_SLICE_(access uint8_t, (m)->attributes, (m)->attributes_len), \
+    PS_SLICE_(access uint32_t, (m)->attribute_count, (m)->attribute_count_len), \
+    PS_SLICE_(access uint16_t, (m)->attribute_starts, (m)->attribute_starts_len), \
+    PS_SLICE_(access uint16_t, (m)->attribute_ends, (m)->attribute_ends_len)
 
-/* Opens a store in its lent memory. Refused with 2, 1. */
+#define PS_NOTHING_
+#define PS_CHANGED_(s) (s)->words, PS_RECORD_WORDS, PS_TABLES_(PS_NOTHING_, &(s)->memory)
+#define PS_LENT_(s) (s)->words, PS_RECORD_WORDS, PS_TABLES_(const, &(s)->memory)
+
+/* A point, list or output that is NULL and said to have elements. */
+#define PS_MISSING_(pointer, length) (!(pointer) && (length) > 0)
+
+/* ---- Memory as one block ---- */
+
+/* PS_OK, or PS_SHAPE for a shape outside the bounds. It opens nothing. */
+static inline uint64_t ps_shape_check(const struct ps_shape *shape) {
+    static struct ps_memory none; /* never written */
+    uint64_t no_words, number;
+    if (!shape)
+        return PS_ILL_FORMED;
+    /* opening judges the shape first and the memory then: here it has none */
+    number = ps_open(&no_words, 0, PS_TABLES_(PS_NOTHING_, &none), shape->dimensions, shape->shingle_size, shape->capacity,
+        shape->initial_capacity, (size_t)shape->internal_shingling, (size_t)shape->internal_rotation, (size_t)shape->store_labels);
+    return number == PS_ILL_FORMED ? (uint64_t)PS_OK : number;
+}
+
+/* How many bytes ps_memory_in() needs for a shape; 0 for one outside the bounds. */
+static inline size_t ps_memory_bytes(const struct ps_shape *shape) {
+    return ps_shape_check(shape) == PS_OK ? PS_MEMORY_BYTES(shape->capacity, shape->dimensions, shape->store_labels) : 0;
+}
+
+/* Lends a store its slices out of one block, which may begin anywhere, and makes its record zeros: ps_store_open() comes next. The
+ * block is the store's from then on. Refused with 1 for NULL, 2, and 1 for a block shorter than ps_memory_bytes(shape). */
+static inline uint64_t ps_memory_in(void *block, size_t bytes, const struct ps_shape *shape, struct ps_store *s) {
+    static struct ps_store empty; /* never written */
+    uint64_t number;
+    size_t n, l;
+    unsigned char *at = (unsigned char *)block;
+    if (!block || !shape || !s)
+        return PS_ILL_FORMED;
+    number = ps_shape_check(shape);
+    if (number != PS_OK)
+        return number;
+    if (bytes < ps_memory_bytes(shape))
+        return PS_ILL_FORMED;
+    while ((uintptr_t)at % 4 != 0)
+        at++;
+    n = shape->capacity;
+    l = shape->store_labels ? n : 0;
+    *s = empty;
+    /* tables of 32 bits, of 16 and of 8, so that each is aligned */
+#define PS_TAKE_(type, table, length) \
+    s->memory.table = (length) > 0 ? (type *)(void *)at : (type *)0; \
+    s->memory.table##_len = (length); \
+    at += (length) * sizeof(type)
+    PS_TAKE_(float, store, n * shape->dimensions);
+    PS_TAKE_(float, last_known_shingle, shape->dimensions);
+    PS_TAKE_(uint32_t, attribute_count, l);
+    PS_TAKE_(uint16_t, reference_count, n);
+    PS_TAKE_(uint16_t, location, n);
+    PS_TAKE_(uint16_t, index_starts, n);
+    PS_TAKE_(uint16_t, index_ends, n);
+    PS_TAKE_(uint16_t, label_attributes, l);
+    PS_TAKE_(uint16_t, label_count, l);
+    PS_TAKE_(uint16_t, label_starts, l);
+    PS_TAKE_(uint16_t, label_ends, l);
+    PS_TAKE_(uint16_t, attribute_starts, l);
+    PS_TAKE_(uint16_t, attribute_ends, l);
+    PS_TAKE_(uint8_t, labels, l);
+    PS_TAKE_(uint8_t, attributes, l);
+#undef PS_TAKE_
+    return PS_OK;
+}
+
+/* ---- The calls ----
+ *
+ * The numbers at each are its refusals in the order in which they are judged. The first 1 of each is also what NULL gets: as the
+ * store, the shape, an output or an answer, and as a point or a list of nonzero length. Where NULL is taken, the call says so. */
+
+/* Opens a store in its lent memory. A second open empties it: all that was kept is gone. Refused with 1 for NULL, then 2, 1. */
 static inline uint64_t ps_store_open(struct ps_store *s, const struct ps_shape *shape) {
-    return ps_open(PS_SPREAD_(s), shape->dimensions, shape->shingle_size, shape->capacity, shape->initial_capacity,
+    if (!s || !shape)
+        return PS_ILL_FORMED;
+    return ps_open(PS_CHANGED_(s), shape->dimensions, shape->shingle_size, shape->capacity, shape->initial_capacity,
         (size_t)shape->internal_shingling, (size_t)shape->internal_rotation, (size_t)shape->store_labels);
 }
 
@@ -292,100 +446,181 @@ static inline uint64_t ps_store_open(struct ps_store *s, const struct ps_shape *
  * Refused with 1, 3, 12, 4, 8, 9, 10. */
 static inline uint64_t ps_store_add(
     struct ps_store *s, const float *point, size_t point_len, size_t label, struct ps_added *added) {
-    return ps_add(PS_SPREAD_(s), PS_SLICE_(uint32_t, point, point_len), label, &added->kept, &added->index,
+    if (!s || !added || PS_MISSING_(point, point_len))
+        return PS_ILL_FORMED;
+    return ps_add(PS_CHANGED_(s), PS_SLICE_(const uint32_t, point, point_len), label, &added->kept, &added->index,
         &added->label_index, &added->joined, &added->place);
 }
 
 /* One count more of an index and of its label index. With labels off the label index is ignored. Refused with 1, 5, 6, 7. */
 static inline uint64_t ps_store_inc(struct ps_store *s, size_t index, size_t label) {
-    return ps_inc(PS_SPREAD_(s), index, label);
+    if (!s)
+        return PS_ILL_FORMED;
+    return ps_inc(PS_CHANGED_(s), index, label);
 }
 
-/* One count less; at 0 the index is free again. With labels off the label index is PS_NONE. Refused with 1, 5, 6. */
+/* One count less; at 0 the index is free again, and so is the label index. With labels off the label index is PS_NONE. Index and
+ * label index need only be live: which label index an index was given is not kept, and any pair of live ones is taken. Refused with
+ * 1, 5, 6. */
 static inline uint64_t ps_store_dec(struct ps_store *s, size_t index, size_t label) {
-    return ps_dec(PS_SPREAD_(s), index, label);
+    if (!s)
+        return PS_ILL_FORMED;
+    return ps_dec(PS_CHANGED_(s), index, label);
 }
 
-/* A list of pairs in order. Where one is refused, those before it stand and `pairs_before` gets their number. Refused with 1 and
- * as inc and dec are. */
+/* A list of pairs in order. Where one is refused, those before it stand and `pairs_before` gets their number, skipped ones counted (0
+ * for a 1 of the whole call). It is written on a refusal alone, and may be NULL. Refused with 1 and, pair by pair, as inc and dec. */
 static inline uint64_t ps_store_adjust(
     struct ps_store *s, const struct ps_pair *pairs, size_t pairs_len, uint64_t *pairs_before) {
-    return ps_adjust(PS_SPREAD_(s), (const size_t(*)[4])ps_address(pairs), pairs ? pairs_len : 0, pairs_before);
+    uint64_t untold;
+    if (!pairs_before)
+        pairs_before = &untold;
+    if (!s || PS_MISSING_(pairs, pairs_len)) {
+        *pairs_before = 0;
+        return PS_ILL_FORMED;
+    }
+    return ps_adjust(PS_CHANGED_(s), (const size_t(*)[4])ps_address(pairs), pairs_len, pairs_before);
 }
 
 /* Brings the floats of live points together at the start. Refused with 1. */
 static inline uint64_t ps_store_compact(struct ps_store *s) {
-    return ps_compact(PS_SPREAD_(s));
+    if (!s)
+        return PS_ILL_FORMED;
+    return ps_compact(PS_CHANGED_(s));
 }
 
 /* The row of an index, turned where the store rotates, into `dimensions` floats. Refused with 1, 5, 3. */
-static inline uint64_t ps_store_copy(struct ps_store *s, size_t index, float *out, size_t out_len) {
-    return ps_copy(PS_SPREAD_(s), index, PS_SLICE_(uint32_t, out, out_len));
+static inline uint64_t ps_store_copy(const struct ps_store *s, size_t index, float *out, size_t out_len) {
+    if (!s || !out)
+        return PS_ILL_FORMED;
+    return ps_copy(PS_LENT_(s), index, (uint32_t *)(void *)out, out_len);
 }
 
 /* The count of an index. Refused with 1, 5. */
-static inline uint64_t ps_store_count(struct ps_store *s, size_t index, uint64_t *count) {
-    return ps_count(PS_SPREAD_(s), index, count);
+static inline uint64_t ps_store_count(const struct ps_store *s, size_t index, uint64_t *count) {
+    if (!s || !count)
+        return PS_ILL_FORMED;
+    return ps_count(PS_LENT_(s), index, count);
 }
 
 /* How many indices are live. Refused with 1. */
-static inline uint64_t ps_store_live_number(struct ps_store *s, uint64_t *number) {
-    return ps_live_number(PS_SPREAD_(s), number);
+static inline uint64_t ps_store_live_number(const struct ps_store *s, uint64_t *number) {
+    if (!s || !number)
+        return PS_ILL_FORMED;
+    return ps_live_number(PS_LENT_(s), number);
 }
 
-/* Where the next row will be laid, in floats. Refused with 1. */
-static inline uint64_t ps_store_free_start(struct ps_store *s, uint64_t *number) {
-    return ps_free_start(PS_SPREAD_(s), number);
+/* The free start: where the next row will be laid, in floats. Refused with 1. */
+static inline uint64_t ps_store_free_start(const struct ps_store *s, uint64_t *number) {
+    if (!s || !number)
+        return PS_ILL_FORMED;
+    return ps_free_start(PS_LENT_(s), number);
 }
 
 /* Whether a point equals the copy of an index, by float ==: `equal` gets 0 or 1. Refused with 1, 5, 3. */
 static inline uint64_t ps_store_is_equal(
-    struct ps_store *s, size_t index, const float *point, size_t point_len, uint64_t *equal) {
-    return ps_is_equal(PS_SPREAD_(s), index, PS_SLICE_(uint32_t, point, point_len), equal);
+    const struct ps_store *s, size_t index, const float *point, size_t point_len, uint64_t *equal) {
+    if (!s || !equal || PS_MISSING_(point, point_len))
+        return PS_ILL_FORMED;
+    return ps_is_equal(PS_LENT_(s), index, PS_SLICE_(const uint32_t, point, point_len), equal);
 }
 
 /* The sum of stored rows times weights, unturned, into `dimensions` floats. Refused with 1, 3 and, item by item, 5, 11. */
 static inline uint64_t ps_store_point_sum(
-    struct ps_store *s, const struct ps_item *items, size_t items_len, float *out, size_t out_len) {
-    return ps_point_sum(PS_SPREAD_(s), (const size_t(*)[2])ps_address(items), items ? items_len : 0,
-        PS_SLICE_(float, out, out_len));
+    const struct ps_store *s, const struct ps_item *items, size_t items_len, float *out, size_t out_len) {
+    if (!s || !out || PS_MISSING_(items, items_len))
+        return PS_ILL_FORMED;
+    return ps_point_sum(PS_LENT_(s), (const size_t(*)[2])ps_address(items), items_len, out, out_len);
 }
 
 /* The window as it would be with this point, into `dimensions` floats. Refused with 1, 3. */
 static inline uint64_t ps_store_shingled_point(
-    struct ps_store *s, const float *point, size_t point_len, float *out, size_t out_len) {
-    return ps_shingled_point(PS_SPREAD_(s), PS_SLICE_(uint32_t, point, point_len), PS_SLICE_(uint32_t, out, out_len));
+    const struct ps_store *s, const float *point, size_t point_len, float *out, size_t out_len) {
+    if (!s || !out || PS_MISSING_(point, point_len))
+        return PS_ILL_FORMED;
+    return ps_shingled_point(PS_LENT_(s), PS_SLICE_(const uint32_t, point, point_len), (uint32_t *)(void *)out, out_len);
 }
 
-/* Where in the window values of a point stand, `look_ahead` adds from now. Refused with 1, 3, 11. */
+/* Where in the window values of a point stand, `look_ahead` adds from now. With no values `out` may be NULL of length 0. Refused with
+ * 1, 3, 11. */
 static inline uint64_t ps_store_missing_indices(
-    struct ps_store *s, size_t look_ahead, const size_t *values, size_t values_len, size_t *out, size_t out_len) {
-    return ps_missing_indices(PS_SPREAD_(s), look_ahead, PS_SLICE_(const size_t, values, values_len),
+    const struct ps_store *s, size_t look_ahead, const size_t *values, size_t values_len, size_t *out, size_t out_len) {
+    if (!s || PS_MISSING_(values, values_len) || (!out && (out_len > 0 || values_len > 0)))
+        return PS_ILL_FORMED;
+    return ps_missing_indices(PS_LENT_(s), look_ahead, PS_SLICE_(const size_t, values, values_len),
         PS_SLICE_(size_t, out, out_len));
 }
 
-/* The same for every value of a point: dimensions / shingle size numbers. Refused with 1, 3, 11. */
-static inline uint64_t ps_store_next_indices(struct ps_store *s, size_t look_ahead, size_t *out, size_t out_len) {
-    return ps_next_indices(PS_SPREAD_(s), look_ahead, PS_SLICE_(size_t, out, out_len));
+/* The same for every value of a reading: base numbers. Refused with 1, 3, 11. */
+static inline uint64_t ps_store_next_indices(const struct ps_store *s, size_t look_ahead, size_t *out, size_t out_len) {
+    if (!s || !out)
+        return PS_ILL_FORMED;
+    return ps_next_indices(PS_LENT_(s), look_ahead, out, out_len);
 }
 
 /* The code that a label index holds. Refused with 1, 6. */
-static inline uint64_t ps_store_label(struct ps_store *s, size_t label, uint64_t *code) {
-    return ps_label(PS_SPREAD_(s), label, code);
+static inline uint64_t ps_store_label(const struct ps_store *s, size_t label, uint64_t *code) {
+    if (!s || !code)
+        return PS_ILL_FORMED;
+    return ps_label(PS_LENT_(s), label, code);
 }
 
 /* The class of its code, 0 to 9. Refused with 1, 6. */
-static inline uint64_t ps_store_attribute(struct ps_store *s, size_t label, uint64_t *attribute) {
-    return ps_attribute(PS_SPREAD_(s), label, attribute);
+static inline uint64_t ps_store_attribute(const struct ps_store *s, size_t label, uint64_t *class_) {
+    if (!s || !class_)
+        return PS_ILL_FORMED;
+    return ps_attribute(PS_LENT_(s), label, class_);
 }
 
 /* Its attribute slot as PS_ATTRIBUTE_FLOATS floats, 1.0 at slot mod 10, else 0.0. Refused with 1, 6, 3. */
-static inline uint64_t ps_store_attribute_vec(struct ps_store *s, size_t label, float *out, size_t out_len) {
-    return ps_attribute_vec(PS_SPREAD_(s), label, PS_SLICE_(float, out, out_len));
+static inline uint64_t ps_store_attribute_vec(const struct ps_store *s, size_t label, float *out, size_t out_len) {
+    if (!s || !out)
+        return PS_ILL_FORMED;
+    return ps_attribute_vec(PS_LENT_(s), label, out, out_len);
+}
+
+/* What is behind a 1. */
+enum ps_state {
+    PS_STATE_WELL_FORMED = 0,  /* the store is well-formed: the 1 was for NULL */
+    PS_STATE_NEVER_OPENED = 1, /* NULL, or a record of zeros */
+    PS_STATE_TOO_SHORT = 2,    /* a slice is shorter than the record's shape asks for */
+    PS_STATE_ILL_FORMED = 3    /* record and slices disagree, or the record is none that opening writes */
+};
+
+static inline enum ps_state ps_store_state(const struct ps_store *s) {
+    uint64_t number, all = 0;
+    size_t i, n, l;
+    const struct ps_memory *m;
+    if (!s)
+        return PS_STATE_NEVER_OPENED;
+    if (ps_store_live_number(s, &number) == PS_OK)
+        return PS_STATE_WELL_FORMED;
+    for (i = 0; i < PS_RECORD_WORDS; i++)
+        all |= s->words[i];
+    if (all == 0)
+        return PS_STATE_NEVER_OPENED;
+    m = &s->memory;
+    if (s->words[0] > PS_MAX_DIMENSIONS || s->words[2] > PS_MAX_CAPACITY)
+        return PS_STATE_ILL_FORMED;
+    n = (size_t)s->words[2];
+    l = s->words[5] ? n : 0;
+#define PS_SHORT_(table, length) ((m->table ? m->table##_len : 0) < (length))
+    if (PS_SHORT_(store, n * (size_t)s->words[0]) || PS_SHORT_(last_known_shingle, (size_t)s->words[0]) ||
+        PS_SHORT_(reference_count, n) || PS_SHORT_(location, n) || PS_SHORT_(index_starts, n) || PS_SHORT_(index_ends, n) ||
+        PS_SHORT_(labels, l) || PS_SHORT_(label_attributes, l) || PS_SHORT_(label_count, l) || PS_SHORT_(label_starts, l) ||
+        PS_SHORT_(label_ends, l) || PS_SHORT_(attributes, l) || PS_SHORT_(attribute_count, l) ||
+        PS_SHORT_(attribute_starts, l) || PS_SHORT_(attribute_ends, l))
+        return PS_STATE_TOO_SHORT;
+#undef PS_SHORT_
+    return PS_STATE_ILL_FORMED;
 }
 
 #undef PS_SLICE_
-#undef PS_SPREAD_
+#undef PS_TABLES_
+#undef PS_NOTHING_
+#undef PS_CHANGED_
+#undef PS_LENT_
+#undef PS_MISSING_
 
 #ifdef __cplusplus
 }

@@ -13,20 +13,7 @@ enum { DIMENSIONS = 4, SHINGLE_SIZE = 4, CAPACITY = 8, LABELS = 1, KEPT = 3 };
 /* Codes 0 to 23 say why a window was kept; the first ones are of class 0, 6 is of class 2. */
 enum { STEADY = 0, RISING = 6 };
 
-static float floats[PS_FLOATS(CAPACITY, DIMENSIONS)];
-static float window[DIMENSIONS];
-static uint16_t reference_count[CAPACITY], location[CAPACITY], index_starts[CAPACITY], index_ends[CAPACITY];
-static uint8_t labels[CAPACITY], attributes[CAPACITY];
-static uint16_t label_attributes[CAPACITY], label_count[CAPACITY], label_starts[CAPACITY], label_ends[CAPACITY];
-static uint32_t attribute_count[CAPACITY];
-static uint16_t attribute_starts[CAPACITY], attribute_ends[CAPACITY];
-
-static const struct ps_memory lent = {
-    floats, PS_FLOATS(CAPACITY, DIMENSIONS), window, DIMENSIONS, reference_count, CAPACITY, location, CAPACITY,
-    index_starts, CAPACITY, index_ends, CAPACITY, labels, CAPACITY, label_attributes, CAPACITY, label_count, CAPACITY,
-    label_starts, CAPACITY, label_ends, CAPACITY, attributes, CAPACITY, attribute_count, CAPACITY,
-    attribute_starts, CAPACITY, attribute_ends, CAPACITY,
-};
+static unsigned char block[PS_MEMORY_BYTES(CAPACITY, DIMENSIONS, LABELS)];
 
 static void accepted(uint64_t number, const char *call) {
     if (number != PS_OK) {
@@ -35,7 +22,7 @@ static void accepted(uint64_t number, const char *call) {
     }
 }
 
-static void print_windows(struct ps_store *s) {
+static void print_windows(const struct ps_store *s) {
     float row[DIMENSIONS];
     uint64_t count;
     for (size_t i = 0; i < CAPACITY; i++) {
@@ -51,17 +38,25 @@ static void print_windows(struct ps_store *s) {
 
 int main(void) {
     static const float readings[] = {41.0f, 41.5f, 42.0f, 44.5f, 48.0f, 53.5f, 55.0f, 55.5f, 54.0f};
-    static const struct ps_shape shape = {DIMENSIONS, SHINGLE_SIZE, CAPACITY, CAPACITY, 1, 0, LABELS};
-    struct ps_store s = {{0}, {0}};
+    static const struct ps_shape shape = {
+        .dimensions = DIMENSIONS,
+        .shingle_size = SHINGLE_SIZE,
+        .capacity = CAPACITY,
+        .initial_capacity = CAPACITY,
+        .internal_shingling = 1,
+        .internal_rotation = 0,
+        .store_labels = LABELS,
+    };
+    struct ps_store s;
     struct ps_added kept[sizeof readings / sizeof readings[0]];
     size_t live = 0, oldest = 0;
-    uint64_t free_start, number, pairs_before;
-    uint8_t name[PS_NAME_LENGTH];
+    uint64_t free_start, number;
 
-    accepted(ps_name(name, PS_NAME_LENGTH), "name");
-    printf("%.*s\n", PS_NAME_LENGTH, (const char *)name);
-
-    s.memory = lent;
+    if (!ps_version_agrees()) {
+        fprintf(stderr, "header and archive are of different versions\n");
+        return 1;
+    }
+    accepted(ps_memory_in(block, sizeof block, &shape, &s), "memory");
     accepted(ps_store_open(&s, &shape), "open");
 
     for (size_t i = 0; i < sizeof readings / sizeof readings[0]; i++) {
@@ -78,7 +73,7 @@ int main(void) {
         if (live - oldest > KEPT) {
             /* the newest window counts once more, the oldest one goes */
             struct ps_pair pair = {added.index, added.label_index, kept[oldest].index, kept[oldest].label_index};
-            accepted(ps_store_adjust(&s, &pair, 1, &pairs_before), "adjust");
+            accepted(ps_store_adjust(&s, &pair, 1, NULL), "adjust");
             oldest++;
         }
     }

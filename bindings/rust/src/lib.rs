@@ -2,7 +2,12 @@
 //!
 //! [`ProvedPointStore`] has the methods of the Rust original's trait [`PointStore`], in the same
 //! argument order and with the same return types. It owns its memory and lends it to the library for
-//! each call. A call answers, or refuses with a [`Refusal`]; none panics.
+//! each call. A call answers, or refuses with a [`Refusal`]; none panics. [`LentPointStore`] has the
+//! same calls over memory that the caller lends, for `no_std` without an allocator, and
+//! [`IntervalManager`] is the library's manager of free indices by itself.
+//!
+//! `docs/STORE.md` in the repository says what a store does: points and windows, places, growth,
+//! compaction, rotation, labels, and each call with its refusals in order.
 //!
 //! ```
 //! use point_store::{PointStore, ProvedPointStore, NONE};
@@ -25,14 +30,35 @@
 //! # Ok(())
 //! # }
 //! ```
+//!
+//! Features: `std` (on by default) and `alloc`, which [`ProvedPointStore`] and [`PointStore`] need.
+//! The archive `libpoint_store_c.a` is taken from the folder that `POINT_STORE_LIB` names, from the
+//! repository's `target/staticlib`, or from where `pkg-config` finds it installed.
 #![warn(missing_docs)]
+#![cfg_attr(not(feature = "std"), no_std)]
 
+#[cfg(feature = "alloc")]
+extern crate alloc;
+
+mod lent;
+mod manager;
 mod memory;
+#[cfg(feature = "alloc")]
 mod point_store;
 mod refusal;
+mod shape;
+#[cfg(feature = "alloc")]
 mod store;
 mod sys;
 
+pub use lent::{
+    name_in, Added, Item, Laid, LentPointStore, Pair, MAX_ATTRIBUTES, NAME_BYTES, NONE,
+};
+pub use manager::IntervalManager;
+pub use memory::{LentMemory, RECORD_WORDS};
+#[cfg(feature = "alloc")]
 pub use point_store::PointStore;
 pub use refusal::{AdjustRefusal, Refusal, Result};
-pub use store::{Added, Laid, ProvedPointStore, MAX_ATTRIBUTES, NONE};
+pub use shape::Shape;
+#[cfg(feature = "alloc")]
+pub use store::ProvedPointStore;

@@ -1,7 +1,8 @@
 //! The trait that analysers are written against.
 
 use crate::refusal::Result;
-use std::hash::Hash;
+use alloc::vec::Vec;
+use core::hash::Hash;
 
 /// A store of points that are windows over readings: the Rust original's trait, with its method
 /// names, argument order and return types.
@@ -101,7 +102,8 @@ where
     /// One count more for a live point and its label.
     fn inc(&mut self, index: usize, attribute_index: usize) -> Result<()>;
 
-    /// One count less for a live point and its label. At 0 the index is free again.
+    /// One count less for a live point and a live label: which label a point was given is not kept, so
+    /// any live one is taken. At 0 the index is free again.
     fn dec(&mut self, index: usize, attribute_index: usize) -> Result<()>;
 
     /// For each pair of an insert and a delete, each a point index and a label index: one count more

@@ -1,12 +1,12 @@
 //! Why a call was refused.
 
-use std::error::Error;
-use std::fmt;
+use core::error::Error;
+use core::fmt;
 
 /// What a call answers: a value, or why it was refused.
-pub type Result<T> = std::result::Result<T, Refusal>;
+pub type Result<T> = core::result::Result<T, Refusal>;
 
-/// Why a call was refused: document 01's fourteen causes, in the order of their numbers.
+/// Why a call was refused: fourteen causes, in the order of their numbers. Later versions have more.
 ///
 /// A refused call changes nothing, except that [`FloatSpaceFull`](Refusal::FloatSpaceFull) leaves
 /// the store compacted and grown, and that the pairs before an adjust's refused one stand.
@@ -18,18 +18,19 @@ pub type Result<T> = std::result::Result<T, Refusal>;
 /// let refusal = store.add(&[1.0, 2.0, 3.0], 0).unwrap_err();
 /// assert_eq!(refusal, Refusal::Length);
 /// assert_eq!(refusal.number(), 3);
-/// let text = "the point does not have the length that the store takes (refusal 3)";
-/// assert_eq!(refusal.to_string(), text);
+/// assert_eq!(refusal.text(), "wrong length of a point or output slice");
+/// assert_eq!(refusal.to_string(), "wrong length of a point or output slice (refusal 3)");
 /// ```
 #[derive(Clone, Copy, Debug, PartialEq, Eq, Hash)]
+#[non_exhaustive]
 pub enum Refusal {
-    /// 1: ill-formed store, or a lent slice too short. No call of a
+    /// 1: ill-formed store or manager, or a lent slice too short. No call of a
     /// [`ProvedPointStore`](crate::ProvedPointStore) gives it: an opened store is well-formed,
     /// every call keeps it so, and nothing else reaches its memory.
     IllFormed,
     /// 2: shape outside the bounds, on opening.
     Shape,
-    /// 3: wrong length of a point.
+    /// 3: wrong length of a point or output slice.
     Length,
     /// 4: label code above 23, labels on.
     LabelCode,
@@ -49,9 +50,9 @@ pub enum Refusal {
     ValueTooLarge,
     /// 12: sequence number at 4,294,967,295.
     SequenceFull,
-    /// 13: capacity of an interval manager; no call of a store gives it.
+    /// 13: manager opened at 0, or opened at or changed to above 1,024; no call of a store gives it.
     ManagerCapacity,
-    /// 14: release of an index that is not in use; no call of a store gives it.
+    /// 14: release of an index free or not below the capacity; no call of a store gives it.
     NotReleasable,
     /// A number that this version of the crate does not know, from a later library.
     Other(u64),
@@ -75,10 +76,43 @@ const CAUSES: [Refusal; 14] = [
     Refusal::NotReleasable,
 ];
 
+/// The texts of the numbers 0 to 14, and last that of every other number: the words of the C header's
+/// `ps_refusal_text`.
+const TEXTS: [&str; 16] = [
+    "accepted",
+    "ill-formed store or manager, or a lent slice too short for its part",
+    "shape outside the bounds",
+    "wrong length of a point or output slice",
+    "label code above 23",
+    "index not in use",
+    "label index not in use",
+    "a count at 65,535 cannot rise",
+    "every label index is in use",
+    "no index free and the table cannot grow",
+    "no float space after compaction and growth",
+    "listed value, look-ahead or weight too large",
+    "sequence number at its limit",
+    "manager capacity outside 1 to 1,024",
+    "index free already, or not below the capacity",
+    "no refusal of this library",
+];
+
 impl Refusal {
-    /// Document 01's number of this cause.
+    /// The number of this cause, as C has it.
     pub fn number(self) -> u64 {
-        self.number_and_text().0
+        match self {
+            Refusal::Other(number) => number,
+            _ => (1..)
+                .zip(CAUSES)
+                .find_map(|(number, cause)| (cause == self).then_some(number))
+                .unwrap_or(0),
+        }
+    }
+
+    /// The cause in words, the same as in C.
+    pub fn text(self) -> &'static str {
+        let last = TEXTS.len() - 1;
+        TEXTS[(self.number() as usize).min(last)]
     }
 
     /// What a return value of the library stands for: 0 is no refusal.
@@ -89,44 +123,11 @@ impl Refusal {
             _ => Err(Refusal::Other(number)),
         }
     }
-
-    fn number_and_text(self) -> (u64, &'static str) {
-        match self {
-            Refusal::IllFormed => (1, "the store is ill-formed, or its memory is too short"),
-            Refusal::Shape => (2, "the shape is outside the bounds"),
-            Refusal::Length => (3, "the point does not have the length that the store takes"),
-            Refusal::LabelCode => (4, "the label code is above 23"),
-            Refusal::PointNotInUse => (5, "no live point has this index"),
-            Refusal::LabelNotInUse => (6, "no live label has this index"),
-            Refusal::CountFull => (7, "a count stands at 65,535 and cannot rise"),
-            Refusal::LabelsFull => (8, "every label index is in use"),
-            Refusal::PointsFull => (9, "no point index is free and the table cannot grow"),
-            Refusal::FloatSpaceFull => (
-                10,
-                "there is no space for the row, even after compaction and growth",
-            ),
-            Refusal::ValueTooLarge => (
-                11,
-                "a listed value, the look-ahead or a weight is too large",
-            ),
-            Refusal::SequenceFull => (
-                12,
-                "the store has taken 4,294,967,295 points and takes no more",
-            ),
-            Refusal::ManagerCapacity => (13, "the manager's capacity is 0 or above 1,024"),
-            Refusal::NotReleasable => (
-                14,
-                "the index to be released is free or not below the capacity",
-            ),
-            Refusal::Other(number) => (number, "a cause that this crate does not know"),
-        }
-    }
 }
 
 impl fmt::Display for Refusal {
     fn fmt(&self, f: &mut fmt::Formatter<'_>) -> fmt::Result {
-        let (number, text) = self.number_and_text();
-        write!(f, "{text} (refusal {number})")
+        write!(f, "{} (refusal {})", self.text(), self.number())
     }
 }
 
@@ -184,12 +185,18 @@ mod tests {
     }
 
     #[test]
-    fn no_two_causes_read_the_same() {
-        for (i, one) in CAUSES.iter().enumerate() {
-            for other in &CAUSES[i + 1..] {
-                assert_ne!(one.number_and_text().1, other.number_and_text().1);
-            }
+    fn the_texts_are_those_of_the_header() {
+        let header = include_str!("../../../include/point_store.h");
+        let (_, texts) = header.split_once("ps_refusal_text(").unwrap();
+        let (texts, _) = texts.split_once("\n}\n").unwrap();
+        let texts: Vec<&str> = texts.split('"').skip(1).step_by(2).collect();
+        assert_eq!(texts, TEXTS);
+        for number in 1..=14 {
+            let refusal = Refusal::of_number(number).unwrap_err();
+            assert_eq!(refusal.text(), texts[number as usize]);
         }
+        assert_eq!(Refusal::Other(15).text(), texts[15]);
+        assert_eq!(Refusal::Other(u64::MAX).text(), texts[15]);
     }
 
     #[test]
@@ -200,7 +207,7 @@ mod tests {
         };
         assert_eq!(
             adjust.to_string(),
-            "pair 2: a count stands at 65,535 and cannot rise (refusal 7)"
+            "pair 2: a count at 65,535 cannot rise (refusal 7)"
         );
         assert_eq!(Refusal::from(adjust), Refusal::CountFull);
     }

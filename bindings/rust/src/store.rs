@@ -1,57 +1,18 @@
-//! The store: memory of its own, and the proved functions over it.
+//! The store that owns its memory.
 
+use crate::lent::{name_in, Added, Item, Pair, MAX_ATTRIBUTES, NAME_BYTES, NONE};
 use crate::memory::Memory;
 use crate::point_store::PointStore;
 use crate::refusal::{AdjustRefusal, Refusal, Result};
-use crate::sys;
-
-/// What document 01 calls none: the index that no point and no label has.
-pub const NONE: usize = usize::MAX;
-
-/// How many floats [`attribute_vec`](PointStore::attribute_vec) gives.
-pub const MAX_ATTRIBUTES: usize = 10;
-
-/// Longer than the library's name is.
-const LONGEST_NAME: usize = 1024;
-
-/// How a kept row was laid, with its place.
-#[derive(Clone, Copy, Debug, PartialEq, Eq, Hash)]
-pub enum Laid {
-    /// All of its floats were written.
-    Whole(usize),
-    /// Its first floats are the last ones of what stood before it; only the rest was written.
-    Joined(usize),
-}
-
-impl Laid {
-    /// The place: the stored row starts at place × dimensions / shingle size.
-    pub fn place(self) -> usize {
-        match self {
-            Laid::Whole(place) | Laid::Joined(place) => place,
-        }
-    }
-}
-
-/// What an accepted add did.
-#[derive(Clone, Copy, Debug, PartialEq, Eq, Hash)]
-pub enum Added {
-    /// The point is kept.
-    Kept {
-        /// The point's index.
-        index: usize,
-        /// Its label index; [`NONE`] with labels off.
-        label: usize,
-        /// How its row was laid, and where.
-        laid: Laid,
-    },
-    /// The first window is not full yet; the reading is in it, and nothing else is kept.
-    Waiting,
-}
+use crate::shape::Shape;
+use alloc::string::String;
+use alloc::vec;
+use alloc::vec::Vec;
 
 /// A point store whose every call is a proved function of the library `point_store_c`.
 ///
 /// It owns the memory that the library is lent. Labels are reason codes 0 to 23, and a label's
-/// attribute is its class, 0 to 9, by document 01's table.
+/// attribute is its class, 0 to 9. `docs/STORE.md` in the repository says what a store does.
 #[derive(Clone, Debug)]
 pub struct ProvedPointStore {
     memory: Memory,
@@ -61,9 +22,8 @@ impl ProvedPointStore {
     /// Opens a store. `store_attributes` turns labels and attributes on; `_propagate_attributes` is
     /// there because the Rust original's constructor has it, which never reads it either.
     ///
-    /// Dimensions are 1 to 64, the shingle size divides them, the capacity is 1 to 1,024, capacity ×
-    /// dimensions is at most 16,384, and the starting capacity is 1 to the capacity; else
-    /// [`Refusal::Shape`].
+    /// The bounds are those of [`Shape`], else [`Refusal::Shape`]; [`builder`](Self::builder) reads
+    /// better.
     ///
     /// ```
     /// use point_store::{ProvedPointStore, Refusal};
@@ -83,38 +43,45 @@ impl ProvedPointStore {
         store_attributes: bool,
         _propagate_attributes: bool,
     ) -> Result<ProvedPointStore> {
-        let shape = sys::Shape {
-            dimensions,
-            shingle_size,
-            capacity,
-            initial_capacity,
-            internal_shingling,
-            internal_rotation,
-            store_labels: store_attributes,
-        };
-        // The library judges the shape before the memory: lent none, it refuses a shape outside the
-        // bounds as that, and any other for its memory. So nothing is allocated for a bad shape.
-        match Refusal::of_number(sys::open(&mut Memory::new(0, 0, false), &shape)) {
-            Err(Refusal::IllFormed) | Ok(()) => {}
-            Err(refusal) => return Err(refusal),
-        }
-        let mut memory = Memory::new(dimensions, capacity, store_attributes);
-        Refusal::of_number(sys::open(&mut memory, &shape))?;
+        Shape::new(dimensions, capacity)
+            .shingle_size(shingle_size)
+            .initial_capacity(initial_capacity)
+            .internal_shingling(internal_shingling)
+            .internal_rotation(internal_rotation)
+            .labels(store_attributes)
+            .open()
+    }
+
+    /// A shape to be filled in and then opened: see [`Shape`].
+    ///
+    /// ```
+    /// use point_store::ProvedPointStore;
+    ///
+    /// let store = ProvedPointStore::builder(6, 16).shingle_size(3).internal_shingling(true).open()?;
+    /// assert_eq!(store.live_number()?, 0);
+    /// # Ok::<(), point_store::Refusal>(())
+    /// ```
+    pub const fn builder(dimensions: usize, capacity: usize) -> Shape {
+        Shape::new(dimensions, capacity)
+    }
+
+    /// Nothing is allocated for a shape outside the bounds.
+    pub(crate) fn opened(shape: &Shape) -> Result<ProvedPointStore> {
+        shape.check()?;
+        let mut memory = Memory::new(shape);
+        memory.lent().open(shape)?;
         Ok(ProvedPointStore { memory })
     }
 
-    /// The library's name: the port's source with its commit, and the version.
+    /// The library's name: its version, the requested changes that it has, the port's source with its
+    /// commit, and the target.
     ///
     /// ```
     /// assert!(point_store::ProvedPointStore::name().starts_with("point store"));
     /// ```
     pub fn name() -> String {
-        let mut text = Vec::new();
-        // The library takes an output exactly as long as the text, and refuses any other.
-        while sys::name(&mut text) != 0 && text.len() < LONGEST_NAME {
-            text.push(0);
-        }
-        String::from_utf8_lossy(&text).into_owned()
+        let mut out = [0; NAME_BYTES];
+        String::from(name_in(&mut out).unwrap_or_default())
     }
 
     /// [`add`](PointStore::add), with how the row was laid and where.
@@ -133,21 +100,7 @@ impl ProvedPointStore {
     /// # }
     /// ```
     pub fn add_laid(&mut self, point: &[f32], label: usize) -> Result<Added> {
-        let mut answer = sys::AddAnswer::default();
-        Refusal::of_number(sys::add(&mut self.memory, point, label, &mut answer))?;
-        if answer.kept == 0 {
-            return Ok(Added::Waiting);
-        }
-        let place = answer.place as usize;
-        Ok(Added::Kept {
-            index: answer.index as usize,
-            label: answer.label_index as usize,
-            laid: if answer.joined == 0 {
-                Laid::Whole(place)
-            } else {
-                Laid::Joined(place)
-            },
-        })
+        self.memory.lent().add(point, label)
     }
 
     /// [`adjust_count`](PointStore::adjust_count), with how many pairs stand where one is refused.
@@ -171,27 +124,27 @@ impl ProvedPointStore {
     pub fn adjust_count_detailed(
         &mut self,
         result: &[((usize, usize), (usize, usize))],
-    ) -> std::result::Result<(), AdjustRefusal> {
-        let pairs: Vec<[usize; 4]> = result
+    ) -> core::result::Result<(), AdjustRefusal> {
+        let pairs: Vec<Pair> = result
             .iter()
-            .map(|&(insert, delete)| [insert.0, insert.1, delete.0, delete.1])
+            .map(|&(insert, delete)| Pair {
+                insert_index: insert.0,
+                insert_label: insert.1,
+                delete_index: delete.0,
+                delete_label: delete.1,
+            })
             .collect();
-        let mut pairs_before = 0;
-        let number = sys::adjust(&mut self.memory, &pairs, &mut pairs_before);
-        Refusal::of_number(number).map_err(|refusal| AdjustRefusal {
-            refusal,
-            pairs_before: pairs_before as usize,
-        })
+        self.memory.lent().adjust(&pairs)
     }
 
     /// The count of a live point.
     pub fn count(&self, index: usize) -> Result<usize> {
-        number(|count| sys::count(&self.memory, index, count))
+        self.memory.read().count(index)
     }
 
     /// How many points are live.
     pub fn live_number(&self) -> Result<usize> {
-        number(|live| sys::live_number(&self.memory, live))
+        self.memory.read().live_number()
     }
 
     /// Where the next row is written: how many floats are taken, those of given-up points included.
@@ -211,51 +164,45 @@ impl ProvedPointStore {
     /// # }
     /// ```
     pub fn free_start(&self) -> Result<usize> {
-        number(|start| sys::free_start(&self.memory, start))
+        self.memory.read().free_start()
     }
 }
 
-/// The number that a call of the library answers.
-fn number(call: impl FnOnce(&mut u64) -> u64) -> Result<usize> {
-    let mut answer = 0;
-    Refusal::of_number(call(&mut answer))?;
-    Ok(answer as usize)
-}
-
-/// The output, `length` entries long, that a call of the library fills.
-fn filled<T: Clone + Default>(length: usize, call: impl FnOnce(&mut [T]) -> u64) -> Result<Vec<T>> {
+/// The output, `length` entries long, that a call fills.
+fn filled<T: Clone + Default>(
+    length: usize,
+    call: impl FnOnce(&mut [T]) -> Result<()>,
+) -> Result<Vec<T>> {
     let mut out = vec![T::default(); length];
-    Refusal::of_number(call(&mut out))?;
+    call(&mut out)?;
     Ok(out)
 }
 
 impl PointStore<usize, usize> for ProvedPointStore {
     fn shingled_point(&self, point: &[f32]) -> Result<Vec<f32>> {
-        filled(self.memory.dimensions(), |out| {
-            sys::shingled_point(&self.memory, point, out)
-        })
+        let memory = self.memory.read();
+        filled(memory.dimensions(), |out| memory.shingled_point(point, out))
     }
 
     fn missing_indices(&self, look_ahead: usize, values: &[usize]) -> Result<Vec<usize>> {
+        let memory = self.memory.read();
         filled(values.len(), |out| {
-            sys::missing_indices(&self.memory, look_ahead, values, out)
+            memory.missing_indices(look_ahead, values, out)
         })
     }
 
     fn next_indices(&self, look_ahead: usize) -> Result<Vec<usize>> {
-        filled(self.memory.base(), |out| {
-            sys::next_indices(&self.memory, look_ahead, out)
-        })
+        let memory = self.memory.read();
+        filled(memory.base(), |out| memory.next_indices(look_ahead, out))
     }
 
     fn copy(&self, index: usize) -> Result<Vec<f32>> {
-        filled(self.memory.dimensions(), |out| {
-            sys::copy(&self.memory, index, out)
-        })
+        let memory = self.memory.read();
+        filled(memory.dimensions(), |out| memory.copy(index, out))
     }
 
     fn is_equal(&self, point: &[f32], index: usize) -> Result<bool> {
-        number(|equal| sys::is_equal(&self.memory, index, point, equal)).map(|equal| equal != 0)
+        self.memory.read().is_equal(point, index)
     }
 
     fn add(&mut self, point: &[f32], label: usize) -> Result<(usize, usize, Option<Vec<f32>>)> {
@@ -266,11 +213,11 @@ impl PointStore<usize, usize> for ProvedPointStore {
     }
 
     fn inc(&mut self, index: usize, attribute_index: usize) -> Result<()> {
-        Refusal::of_number(sys::inc(&mut self.memory, index, attribute_index))
+        self.memory.lent().inc(index, attribute_index)
     }
 
     fn dec(&mut self, index: usize, attribute_index: usize) -> Result<()> {
-        Refusal::of_number(sys::dec(&mut self.memory, index, attribute_index))
+        self.memory.lent().dec(index, attribute_index)
     }
 
     fn adjust_count(&mut self, result: &[((usize, usize), (usize, usize))]) -> Result<()> {
@@ -278,31 +225,29 @@ impl PointStore<usize, usize> for ProvedPointStore {
     }
 
     fn compact(&mut self) -> Result<()> {
-        Refusal::of_number(sys::compact(&mut self.memory))
+        self.memory.lent().compact()
     }
 
     fn label(&self, index: usize) -> Result<usize> {
-        number(|code| sys::label(&self.memory, index, code))
+        self.memory.read().label(index)
     }
 
     fn attribute(&self, index: usize) -> Result<usize> {
-        number(|class| sys::attribute(&self.memory, index, class))
+        self.memory.read().attribute(index)
     }
 
     fn point_sum(&self, list: &[(usize, usize)]) -> Result<Vec<f32>> {
-        let items: Vec<[usize; 2]> = list
+        let items: Vec<Item> = list
             .iter()
-            .map(|&(index, weight)| [index, weight])
+            .map(|&(index, weight)| Item { index, weight })
             .collect();
-        filled(self.memory.dimensions(), |out| {
-            sys::point_sum(&self.memory, &items, out)
-        })
+        let memory = self.memory.read();
+        filled(memory.dimensions(), |out| memory.point_sum(&items, out))
     }
 
     fn attribute_vec(&self, index: usize) -> Result<Vec<f32>> {
-        filled(MAX_ATTRIBUTES, |out| {
-            sys::attribute_vec(&self.memory, index, out)
-        })
+        let memory = self.memory.read();
+        filled(MAX_ATTRIBUTES, |out| memory.attribute_vec(index, out))
     }
 }
 

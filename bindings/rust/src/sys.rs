@@ -2,21 +2,28 @@
 //! crate is in this file.
 //!
 //! A function takes the record, the fifteen tables, the call's arguments and the places of its
-//! answers. A slice is a pointer and then a length in elements. The return value is 0 or document
-//! 01's refusal number. Nothing checks these declarations against the library's source.
+//! answers. A slice is a pointer and then a length in elements. The return value is 0 or a refusal's
+//! number. The test `declarations` holds these declarations to the library's source.
 //!
 //! The library asks of a caller only that each pointer is aligned and valid for as many elements as
 //! its length says, for writing where it is `*mut` or `&mut`, and that what is written overlaps
-//! nothing else that is lent. It keeps no pointer and has no state of its own. A slice or a vector of
-//! Rust's meets the first for the time of a call; an empty one has a pointer that is not null, is
-//! aligned and is never followed. The second is what a `&mut` says: the record and the tables are
-//! separate fields of one `Memory`, the answers are locals or vectors that the caller made for this
-//! call, and the arguments are borrowed beside them.
+//! nothing else that is lent. It keeps no pointer and has no state of its own. A slice of Rust's meets
+//! the first for the time of a call; an empty one has a pointer that is not null, is aligned and is
+//! never followed. The second is what a `&mut` says: the record and the tables are separate slices of
+//! one `LentMemory`, the answers are locals or slices that the caller lends for this call, and the
+//! arguments are borrowed beside them.
 //!
 //! A float goes over as its 32 bits: `f32` and `u32` have the same size and alignment, and every
 //! pattern of 32 bits is a value of both, so a NaN's bits come back as they were given.
 
-use crate::memory::Memory;
+use crate::lent::{Item, Pair};
+use crate::memory::{LentMemory, ReadMemory};
+use crate::shape::Shape;
+use core::mem::size_of;
+
+const _: () = assert!(size_of::<usize>() == 8, "the library is for 64-bit targets");
+const _: () = assert!(size_of::<Pair>() == size_of::<[usize; 4]>());
+const _: () = assert!(size_of::<Item>() == size_of::<[usize; 2]>());
 
 /// Declares functions that take the record and the tables, to read (`const`) or to change (`mut`)
 /// them, and then the arguments named.
@@ -110,7 +117,71 @@ declare! { const
 }
 
 extern "C" {
-    fn ps_name(out: *mut u8, out_length: usize) -> u64;
+    fn ps_name(out: *mut u8, out_length: usize, name_length: &mut u64) -> u64;
+
+    fn ps_manager_new(
+        words: *mut u64,
+        words_length: usize,
+        starts: *mut u16,
+        starts_length: usize,
+        ends: *mut u16,
+        ends_length: usize,
+        size: usize,
+    ) -> u64;
+    fn ps_manager_change_capacity(
+        words: *mut u64,
+        words_length: usize,
+        starts: *mut u16,
+        starts_length: usize,
+        ends: *mut u16,
+        ends_length: usize,
+        new_capacity: usize,
+    ) -> u64;
+    fn ps_manager_get(
+        words: *mut u64,
+        words_length: usize,
+        starts: *mut u16,
+        starts_length: usize,
+        ends: *const u16,
+        ends_length: usize,
+        index: &mut u64,
+    ) -> u64;
+    fn ps_manager_release(
+        words: *mut u64,
+        words_length: usize,
+        starts: *mut u16,
+        starts_length: usize,
+        ends: *mut u16,
+        ends_length: usize,
+        index: usize,
+    ) -> u64;
+    fn ps_manager_used(
+        words: *const u64,
+        words_length: usize,
+        starts: *const u16,
+        starts_length: usize,
+        ends: *const u16,
+        ends_length: usize,
+        used: &mut u64,
+    ) -> u64;
+    fn ps_manager_is_empty(
+        words: *const u64,
+        words_length: usize,
+        starts: *const u16,
+        starts_length: usize,
+        ends: *const u16,
+        ends_length: usize,
+        empty: &mut u64,
+    ) -> u64;
+    fn ps_manager_get_capacity(
+        words: *const u64,
+        words_length: usize,
+        starts: *const u16,
+        starts_length: usize,
+        ends: *const u16,
+        ends_length: usize,
+        capacity: &mut u64,
+    ) -> u64;
 }
 
 /// Calls a function that changes the memory.
@@ -119,9 +190,9 @@ macro_rules! change {
         $function(
             $memory.words.as_mut_ptr(),
             $memory.words.len(),
-            $memory.store.as_mut_ptr(),
+            $memory.store.as_mut_ptr().cast(),
             $memory.store.len(),
-            $memory.last_known_shingle.as_mut_ptr(),
+            $memory.last_known_shingle.as_mut_ptr().cast(),
             $memory.last_known_shingle.len(),
             $memory.reference_count.as_mut_ptr(),
             $memory.reference_count.len(),
@@ -160,9 +231,9 @@ macro_rules! read {
         $function(
             $memory.words.as_ptr(),
             $memory.words.len(),
-            $memory.store.as_ptr(),
+            $memory.store.as_ptr().cast(),
             $memory.store.len(),
-            $memory.last_known_shingle.as_ptr(),
+            $memory.last_known_shingle.as_ptr().cast(),
             $memory.last_known_shingle.len(),
             $memory.reference_count.as_ptr(),
             $memory.reference_count.len(),
@@ -195,18 +266,7 @@ macro_rules! read {
     };
 }
 
-/// A store's shape and flags, as opening takes them.
-pub struct Shape {
-    pub dimensions: usize,
-    pub shingle_size: usize,
-    pub capacity: usize,
-    pub initial_capacity: usize,
-    pub internal_shingling: bool,
-    pub internal_rotation: bool,
-    pub store_labels: bool,
-}
-
-pub fn open(memory: &mut Memory, shape: &Shape) -> u64 {
+pub fn open(memory: &mut LentMemory<'_>, shape: &Shape) -> u64 {
     // SAFETY: the memory is borrowed for this call alone; a table of any length is fine.
     unsafe {
         change!(
@@ -233,7 +293,12 @@ pub struct AddAnswer {
     pub place: u64,
 }
 
-pub fn add(memory: &mut Memory, point: &[f32], label: usize, answer: &mut AddAnswer) -> u64 {
+pub fn add(
+    memory: &mut LentMemory<'_>,
+    point: &[f32],
+    label: usize,
+    answer: &mut AddAnswer,
+) -> u64 {
     // SAFETY: the memory and the answer's five fields are borrowed to be changed, so that the point
     // overlaps neither.
     unsafe {
@@ -252,48 +317,56 @@ pub fn add(memory: &mut Memory, point: &[f32], label: usize, answer: &mut AddAns
     }
 }
 
-pub fn inc(memory: &mut Memory, index: usize, label: usize) -> u64 {
+pub fn inc(memory: &mut LentMemory<'_>, index: usize, label: usize) -> u64 {
     // SAFETY: the memory is borrowed for this call alone; the rest is numbers.
     unsafe { change!(ps_inc, memory, index, label) }
 }
 
-pub fn dec(memory: &mut Memory, index: usize, label: usize) -> u64 {
+pub fn dec(memory: &mut LentMemory<'_>, index: usize, label: usize) -> u64 {
     // SAFETY: the memory is borrowed for this call alone; the rest is numbers.
     unsafe { change!(ps_dec, memory, index, label) }
 }
 
-pub fn adjust(memory: &mut Memory, pairs: &[[usize; 4]], pairs_before: &mut u64) -> u64 {
+pub fn adjust(memory: &mut LentMemory<'_>, pairs: &[Pair], pairs_before: &mut u64) -> u64 {
     // SAFETY: the memory and the answer are borrowed to be changed, so that the pairs overlap
-    // neither; an array of four numbers has no padding.
-    unsafe { change!(ps_adjust, memory, pairs.as_ptr(), pairs.len(), pairs_before) }
+    // neither; a `Pair` is laid out as four numbers.
+    unsafe {
+        change!(
+            ps_adjust,
+            memory,
+            pairs.as_ptr().cast(),
+            pairs.len(),
+            pairs_before
+        )
+    }
 }
 
-pub fn compact(memory: &mut Memory) -> u64 {
+pub fn compact(memory: &mut LentMemory<'_>) -> u64 {
     // SAFETY: the memory is borrowed for this call alone.
     unsafe { change!(ps_compact, memory) }
 }
 
-pub fn copy(memory: &Memory, index: usize, out: &mut [f32]) -> u64 {
+pub fn copy(memory: &ReadMemory<'_>, index: usize, out: &mut [f32]) -> u64 {
     // SAFETY: the output is borrowed to be changed, so that it overlaps nothing of the memory.
     unsafe { read!(ps_copy, memory, index, out.as_mut_ptr().cast(), out.len()) }
 }
 
-pub fn count(memory: &Memory, index: usize, count: &mut u64) -> u64 {
+pub fn count(memory: &ReadMemory<'_>, index: usize, count: &mut u64) -> u64 {
     // SAFETY: the answer is borrowed to be changed, so that it overlaps nothing of the memory.
     unsafe { read!(ps_count, memory, index, count) }
 }
 
-pub fn live_number(memory: &Memory, number: &mut u64) -> u64 {
+pub fn live_number(memory: &ReadMemory<'_>, number: &mut u64) -> u64 {
     // SAFETY: as for count.
     unsafe { read!(ps_live_number, memory, number) }
 }
 
-pub fn free_start(memory: &Memory, number: &mut u64) -> u64 {
+pub fn free_start(memory: &ReadMemory<'_>, number: &mut u64) -> u64 {
     // SAFETY: as for count.
     unsafe { read!(ps_free_start, memory, number) }
 }
 
-pub fn is_equal(memory: &Memory, index: usize, point: &[f32], equal: &mut u64) -> u64 {
+pub fn is_equal(memory: &ReadMemory<'_>, index: usize, point: &[f32], equal: &mut u64) -> u64 {
     // SAFETY: the answer is borrowed to be changed; the memory and the point are only read.
     unsafe {
         read!(
@@ -307,14 +380,14 @@ pub fn is_equal(memory: &Memory, index: usize, point: &[f32], equal: &mut u64) -
     }
 }
 
-pub fn point_sum(memory: &Memory, items: &[[usize; 2]], out: &mut [f32]) -> u64 {
-    // SAFETY: the output is borrowed to be changed; the memory and the items are only read; an array
-    // of two numbers has no padding.
+pub fn point_sum(memory: &ReadMemory<'_>, items: &[Item], out: &mut [f32]) -> u64 {
+    // SAFETY: the output is borrowed to be changed; the memory and the items are only read; an
+    // `Item` is laid out as two numbers.
     unsafe {
         read!(
             ps_point_sum,
             memory,
-            items.as_ptr(),
+            items.as_ptr().cast(),
             items.len(),
             out.as_mut_ptr(),
             out.len()
@@ -322,7 +395,7 @@ pub fn point_sum(memory: &Memory, items: &[[usize; 2]], out: &mut [f32]) -> u64 
     }
 }
 
-pub fn shingled_point(memory: &Memory, point: &[f32], out: &mut [f32]) -> u64 {
+pub fn shingled_point(memory: &ReadMemory<'_>, point: &[f32], out: &mut [f32]) -> u64 {
     // SAFETY: the output is borrowed to be changed; the memory and the point are only read.
     unsafe {
         read!(
@@ -337,7 +410,7 @@ pub fn shingled_point(memory: &Memory, point: &[f32], out: &mut [f32]) -> u64 {
 }
 
 pub fn missing_indices(
-    memory: &Memory,
+    memory: &ReadMemory<'_>,
     look_ahead: usize,
     values: &[usize],
     out: &mut [usize],
@@ -356,7 +429,7 @@ pub fn missing_indices(
     }
 }
 
-pub fn next_indices(memory: &Memory, look_ahead: usize, out: &mut [usize]) -> u64 {
+pub fn next_indices(memory: &ReadMemory<'_>, look_ahead: usize, out: &mut [usize]) -> u64 {
     // SAFETY: as for copy.
     unsafe {
         read!(
@@ -369,22 +442,153 @@ pub fn next_indices(memory: &Memory, look_ahead: usize, out: &mut [usize]) -> u6
     }
 }
 
-pub fn label(memory: &Memory, label: usize, code: &mut u64) -> u64 {
+pub fn label(memory: &ReadMemory<'_>, label: usize, code: &mut u64) -> u64 {
     // SAFETY: as for count.
     unsafe { read!(ps_label, memory, label, code) }
 }
 
-pub fn attribute(memory: &Memory, label: usize, class: &mut u64) -> u64 {
+pub fn attribute(memory: &ReadMemory<'_>, label: usize, class: &mut u64) -> u64 {
     // SAFETY: as for count.
     unsafe { read!(ps_attribute, memory, label, class) }
 }
 
-pub fn attribute_vec(memory: &Memory, label: usize, out: &mut [f32]) -> u64 {
+pub fn attribute_vec(memory: &ReadMemory<'_>, label: usize, out: &mut [f32]) -> u64 {
     // SAFETY: as for copy.
     unsafe { read!(ps_attribute_vec, memory, label, out.as_mut_ptr(), out.len()) }
 }
 
-pub fn name(out: &mut [u8]) -> u64 {
-    // SAFETY: the output is all that is lent.
-    unsafe { ps_name(out.as_mut_ptr(), out.len()) }
+pub fn name(out: &mut [u8], name_length: &mut u64) -> u64 {
+    // SAFETY: output and answer are borrowed to be changed, and all that is lent.
+    unsafe { ps_name(out.as_mut_ptr(), out.len(), name_length) }
+}
+
+/// An opening without memory: it can only be refused.
+pub fn open_nothing(shape: &Shape) -> u64 {
+    let mut none = LentMemory {
+        words: &mut [],
+        store: &mut [],
+        last_known_shingle: &mut [],
+        reference_count: &mut [],
+        location: &mut [],
+        index_starts: &mut [],
+        index_ends: &mut [],
+        labels: &mut [],
+        label_attributes: &mut [],
+        label_count: &mut [],
+        label_starts: &mut [],
+        label_ends: &mut [],
+        attributes: &mut [],
+        attribute_count: &mut [],
+        attribute_starts: &mut [],
+        attribute_ends: &mut [],
+    };
+    open(&mut none, shape)
+}
+
+/// Calls a function of the manager that changes its record and a table, or both.
+macro_rules! manager {
+    ($function:ident, $words:ident, $starts:ident, $ends:ident.$as_ptr:ident, $argument:expr) => {
+        $function(
+            $words.as_mut_ptr(),
+            $words.len(),
+            $starts.as_mut_ptr(),
+            $starts.len(),
+            $ends.$as_ptr(),
+            $ends.len(),
+            $argument,
+        )
+    };
+}
+
+/// Calls a function of the manager that reads.
+macro_rules! read_manager {
+    ($function:ident, $words:ident, $starts:ident, $ends:ident, $argument:expr) => {
+        $function(
+            $words.as_ptr(),
+            $words.len(),
+            $starts.as_ptr(),
+            $starts.len(),
+            $ends.as_ptr(),
+            $ends.len(),
+            $argument,
+        )
+    };
+}
+
+// SAFETY, of each of the manager's: the record and the tables are separate slices, borrowed for the
+// call, and the answer is borrowed beside them.
+
+pub fn manager_new(words: &mut [u64], starts: &mut [u16], ends: &mut [u16], size: usize) -> u64 {
+    unsafe { manager!(ps_manager_new, words, starts, ends.as_mut_ptr, size) }
+}
+
+pub fn manager_change_capacity(
+    words: &mut [u64],
+    starts: &mut [u16],
+    ends: &mut [u16],
+    new_capacity: usize,
+) -> u64 {
+    unsafe {
+        manager!(
+            ps_manager_change_capacity,
+            words,
+            starts,
+            ends.as_mut_ptr,
+            new_capacity
+        )
+    }
+}
+
+pub fn manager_get(words: &mut [u64], starts: &mut [u16], ends: &[u16], index: &mut u64) -> u64 {
+    unsafe { manager!(ps_manager_get, words, starts, ends.as_ptr, index) }
+}
+
+pub fn manager_release(
+    words: &mut [u64],
+    starts: &mut [u16],
+    ends: &mut [u16],
+    index: usize,
+) -> u64 {
+    unsafe { manager!(ps_manager_release, words, starts, ends.as_mut_ptr, index) }
+}
+
+pub fn manager_used(words: &[u64], starts: &[u16], ends: &[u16], used: &mut u64) -> u64 {
+    unsafe { read_manager!(ps_manager_used, words, starts, ends, used) }
+}
+
+pub fn manager_is_empty(words: &[u64], starts: &[u16], ends: &[u16], empty: &mut u64) -> u64 {
+    unsafe { read_manager!(ps_manager_is_empty, words, starts, ends, empty) }
+}
+
+pub fn manager_get_capacity(
+    words: &[u64],
+    starts: &[u16],
+    ends: &[u16],
+    capacity: &mut u64,
+) -> u64 {
+    unsafe { read_manager!(ps_manager_get_capacity, words, starts, ends, capacity) }
+}
+
+/// A type of at most 64 bits, of which every pattern of bits is a value.
+///
+/// # Safety
+///
+/// Its size divides 8, and so does its alignment.
+pub unsafe trait Plain {}
+
+unsafe impl Plain for u8 {}
+unsafe impl Plain for u16 {}
+unsafe impl Plain for u32 {}
+unsafe impl Plain for u64 {}
+unsafe impl Plain for f32 {}
+
+/// The first `length` elements of another type in a block of words, and the words after them. The
+/// block is long enough, else this panics.
+pub fn split_off<T: Plain>(block: &mut [u64], length: usize) -> (&mut [T], &mut [u64]) {
+    let words = (length * size_of::<T>()).div_ceil(8);
+    let (taken, rest) = block.split_at_mut(words);
+    // SAFETY: the words taken are aligned for T, hold at least `length` of them, any bits of them are
+    // values of T and of u64, and they are borrowed as long as what comes back.
+    let table = unsafe { core::slice::from_raw_parts_mut(taken.as_mut_ptr().cast(), length) };
+    (table, rest)
 }

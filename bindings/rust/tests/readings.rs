@@ -142,6 +142,7 @@ fn one_hot_is_at_the_slot_and_not_at_the_class() {
 #[test]
 fn the_name_is_the_librarys() {
     let name = ProvedPointStore::name();
-    assert!(name.starts_with("point store"), "{name}");
+    let version = concat!("point store ", env!("CARGO_PKG_VERSION"), ";");
+    assert!(name.starts_with(version), "{name}");
     assert!(name.contains("05b18fcda4"), "{name}");
 }

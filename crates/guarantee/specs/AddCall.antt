@@ -223,7 +223,7 @@ module _ {E : Type 0} (eq : E → E → Bool) (zeroElement : E) (h : Shape) (the
             (λ e. table-kept (tableLength u) (pointTable laid) (laid .memory .location) (same-table (positive (u .«index_manager» .last_in_use) (eqb-false (u .«index_manager» .last_in_use) 0 e))))
 
         -- the index is the one in the answer
-        given : nextIndex (pointTable (tableGrown laid)) ≡ indexGiven eq zeroElement p
+        given : nextIndex (pointTable (tableGrown laid)) ≡ indexGiven p
         unfolding tableGrown sequenced indexGiven
         given = go (eqb (u .«index_manager» .last_in_use) 0)
           where
@@ -231,16 +231,16 @@ module _ {E : Type 0} (eq : E → E → Bool) (zeroElement : E) (h : Shape) (the
             go true = refl
             go false = refl
 
-        laid-given : then g ≡ placed (tableGrown laid) place → Sound (placed (tableGrown laid) place) → Relates eq h then (changedHistory g (gave (indexGiven eq zeroElement p)) accepted) (placed (tableGrown laid) place)
+        laid-given : then g ≡ placed (tableGrown laid) place → Sound (placed (tableGrown laid) place) → Relates eq h then (changedHistory g (gave (indexGiven p)) accepted) (placed (tableGrown laid) place)
         laid-given now sound =
             subst (λ (i : ℕ). Relates eq h then (changedHistory g (gave i) accepted) (placed (tableGrown laid) place)) given (grown-kept now sound)
 
     -- a kept add, with its label or without one
-    pub add-kept : (g : Given E) → g .row ≡ rowOfAdd h (point ∷ s .points) → g .place ≡ place → then g ≡ keptAfter eq zeroElement p point code
-        → Relates eq h then (changedHistory g (gave (indexGiven eq zeroElement p)) accepted) (keptAfter eq zeroElement p point code)
+    pub add-kept : (g : Given E) → g .row ≡ rowOfAdd h (point ∷ s .points) → g .place ≡ place → then g ≡ keptAfter eq (roomMade zeroElement (p .header) (rowsOf p)) (rowOf p point) p point code
+        → Relates eq h then (changedHistory g (gave (indexGiven p)) accepted) (keptAfter eq (roomMade zeroElement (p .header) (rowsOf p)) (rowOf p point) p point code)
     unfolding keptAfter labelled
     add-kept g of-row of-place now =
-        by-cases (λ q. then g ≡ placed (tableGrown (withRows (laidRows eq u room row) (sequenced q point))) place → Sound (placed (tableGrown (withRows (laidRows eq u room row) (sequenced q point))) place) → Relates eq h then (changedHistory g (gave (indexGiven eq zeroElement p)) accepted) (placed (tableGrown (withRows (laidRows eq u room row) (sequenced q point))) place))
+        by-cases (λ q. then g ≡ placed (tableGrown (withRows (laidRows eq u room row) (sequenced q point))) place → Sound (placed (tableGrown (withRows (laidRows eq u room row) (sequenced q point))) place) → Relates eq h then (changedHistory g (gave (indexGiven p)) accepted) (placed (tableGrown (withRows (laidRows eq u room row) (sequenced q point))) place))
         (u .«store_labels») (withLabels (labelTaken classTable (u .capacity) (labelHalf p) code .after) p) p
         (λ on.
         laid-given (labelTaken classTable (u .capacity) (labelHalf p) code .after)

@@ -13,7 +13,7 @@ use Rattle.store_definitions.specs.declared.Shape.{Shape}
 use Rattle.store_definitions.specs.Memory.{PointStore}
 use Rattle.store_definitions.specs.Answers.{Answer, done, refusedAfter, Outcome}
 use Rattle.store_definitions.specs.Decisions.{touchDecided}
-use Rattle.store_definitions.specs.Counting.{Pairing, incTest, decTest, incremented, decremented, pairDecided, pairDone, pairCarriedOut, adjustFrom}
+use Rattle.store_definitions.specs.Counting.{Pairing, incTest, decTest, incremented, decremented, pairDecided, pairDone, unlessRefused, adjustFrom}
 use Rattle.store_laws.specs.Sound.{Sound}
 use Rattle.store_laws.specs.DecisionLaws.{both-go, touch-go}
 use Rattle.store_laws.specs.CountingLaws.{inc-accepted, pair-accepted}
@@ -82,7 +82,7 @@ module _ {E : Type 0} (eq : E → E → Bool) (h : Shape) (then : Given E → Po
 
   refused-pair : (d : Decided) (before : ℕ) (q : Pairing) (qs : List Pairing) (s : History E) (p : PointStore E) → Relates eq h then s p
       → (d ≡ go → Kept (suc before) qs (changedBy g (pairChanges q) s) (adjustFrom (suc before) qs (pairDone p q)))
-      → Kept before (q ∷ qs) s (pairCarriedOut d p before (adjustFrom (suc before) qs) (pairDone p q))
+      → Kept before (q ∷ qs) s (unlessRefused d before p (adjustFrom (suc before) qs (pairDone p q)))
   unfolding pairsChanges changedBy
   refused-pair go before q qs s p r f = one-more before q qs s _ (f refl)
   refused-pair (refuse n) before q qs s p r f = (0, subst (λ (k : ℕ). Ended before (q ∷ qs) 0 (refusedAfter n k)) (omega arith) (some 0 n), r)
@@ -101,6 +101,6 @@ module _ {E : Type 0} (eq : E → E → Bool) (h : Shape) (then : Given E → Po
     where
       split : (b : Bool) → eqb (q .insertIndex) none ≡ b → Kept (suc before) qs s (adjustFrom (suc before) qs p)
           → (eqb (q .insertIndex) none ≡ false → pairDecided p q ≡ go → Kept (suc before) qs (changedBy g (pairChanges q) s) (adjustFrom (suc before) qs (pairDone p q)))
-          → Kept before (q ∷ qs) s (cond b (adjustFrom (suc before) qs p) (pairCarriedOut (pairDecided p q) p before (adjustFrom (suc before) qs) (pairDone p q)))
+          → Kept before (q ∷ qs) s (cond b (adjustFrom (suc before) qs p) (unlessRefused (pairDecided p q) before p (adjustFrom (suc before) qs (pairDone p q))))
       split true e k f = one-more before q qs s (adjustFrom (suc before) qs p) (subst (λ (cs : List Change). Kept (suc before) qs (changedBy g cs s) (adjustFrom (suc before) qs p)) (sym (skipped q e)) k)
       split false e k f = refused-pair (pairDecided p q) before q qs s p r (f e)

@@ -5,13 +5,13 @@ use mathlib.Core.List.{List}
 use Rattle.store_definitions.specs.declared.Shape.{Shape}
 use Rattle.store_definitions.specs.Memory.{Memory, PointStore}
 use Rattle.store_definitions.specs.Answers.{Answer, Outcome, Output}
-use Rattle.store_definitions.specs.Opening.{OpenOutcome, openSpec}
+use Rattle.store_definitions.specs.Opening.{openSpec}
 use Rattle.store_definitions.specs.Counting.{Pairing, incSpec, decSpec, adjustSpec, countSpec, liveNumberSpec, freeStartSpec}
 use Rattle.store_definitions.specs.Rows.{compactSpec, copySpec}
 use Rattle.store_definitions.specs.Adding.{addSpec}
 
 module _ {E : Type 0} (zeroElement : E) where
-  abbrev pub openCall : Shape → Memory E → OpenOutcome E
+  abbrev pub openCall : Shape → Memory E → Outcome E
   openCall = openSpec zeroElement
 
   abbrev pub compactCall : PointStore E → Outcome E

@@ -1,17 +1,19 @@
--- Document 01's worked windows A to D as lists of calls, and two smaller lists: what the calls and their answers say, and each
--- clause of the guarantee computed. Elements are numbers, compared as such; the memory lent to each opening holds rubbish.
-use Prim.Native.Nat.{ℕ, _*_}
-use mathlib.Core.Bool.{Bool, true, false}
-use mathlib.Core.List.{List, [], _∷_}
+-- What the calls and their answers of the lists say, and each clause of the guarantee computed on them, with the equality that the
+-- contracts use.
+use Prim.Native.Nat.{ℕ}
+use mathlib.Core.Bool.{true, false}
+use mathlib.Core.List.{[], _∷_}
 use mathlib.Core.Path.{_≡_, refl}
 use lib.ListN.{take, replicate}
-use lib.Dec.{eqb}
+use lib.Ieee.{eq, ofFields, ofBits}
 use Rattle.terms.specs.Below.{everyBelow, sumBelow, countBelow}
 use Rattle.terms.specs.Rows.{allEqual}
+use Rattle.terms.specs.Search.{firstBelow}
+use Rattle.float_bits.specs.Words.{plusZero, minusZero, wordsEqual}
 use Rattle.interval_store_manager.specs.Calls.{pushed, changed, taken, released}
 use Rattle.interval_store_manager.specs.Intervals.{inside, holders, isFree, inBounds, noneShared}
 use Rattle.interval_store_manager.specs.WellFormed.{capacityAllowed, lentEnough as stackLent, wellFormed as managerWellFormed}
-use Rattle.placement.specs.declared.Laid.the-variants.{Whole}
+use Rattle.placement.specs.declared.Laid.the-variants.{Whole, Joined}
 use Rattle.placement.specs.Alignment.{wrappingSub, wrappingAdd, alignment, zerosBefore}
 use Rattle.placement.specs.AlignmentLaws.{pointRoom}
 use Rattle.placement.specs.Compaction.{holds, liveBelow, moved, grownBlocks, blocks, blockMoves, copiedDown, settled, blockDown, blocksDown, writtenByBlocks, compacted}
@@ -20,185 +22,147 @@ use Rattle.placement.specs.Growth.{grown}
 use Rattle.placement.specs.Laying.{writtenCount, laidAs, laidElements, laidFree, placeOf}
 use Rattle.placement.specs.Overlap.{overlaps}
 use Rattle.placement.specs.Row.{rowToLay, movedWindow}
-use Rattle.labels.specs.Counted.{countedWell, indexTaken, raised, lowered, liveNumber}
-use Rattle.labels.specs.Decisions.{none, codeDecided, roomDecided, incDecided, decDecided}
-use Rattle.store_definitions.specs.declared.Shape.{Shape}
-use Rattle.store_definitions.specs.Memory.{Memory, PointStore}
-use Rattle.store_definitions.specs.Answers.{Answer, kept, is, refused}
-use Rattle.store_definitions.specs.Opening.{opens, openDecided, openedMemory, opened, openSpec}
-use Rattle.store_definitions.specs.Counting.{Pairing, incTest, incremented, incSpec, pairDecided, pairDone, adjustFrom, adjustSpec, decTest, placeAfterDec, decremented, decSpec, countSpec, liveNumberSpec, freeStartSpec}
-use Rattle.store_definitions.specs.Rows.{compactedRows, grownRows, short, roomMade, compactSpec, copyOf, copyDecided, copySpec}
+use Rattle.labels.specs.Counted.{managed, freeUncounted, countsFit, indexTaken, raised, lowered, liveNumber}
+use Rattle.labels.specs.Decisions.{none, codeDecided, roomDecided, inUse, incDecided, decDecided}
+use Rattle.labels.specs.Classes.{reasonClasses}
+use Rattle.labels.specs.Labels.{labelsWell, differ, slotSum, labelTaken, slotTaken, classSlot, holdsClass, tablesLent, codesAllowed, slotsHoldClasses, classesDistinct, slotsSummed, labelRaised, labelLowered}
+use Rattle.labels.specs.Opening.{labelsOpened}
+use Rattle.store_definitions.specs.Answers.{kept, done, is, refused, refusedAfter, Output, output}
+use Rattle.store_definitions.specs.Opening.{openedMemory, opened}
+use Rattle.store_definitions.specs.Counting.{incTest, incremented, incSpec, pairDecided, pairDone, adjustFrom, adjustSpec, decTest, placeAfterDec, decremented, decSpec, countSpec, liveNumberSpec, freeStartSpec}
+use Rattle.store_definitions.specs.Rows.{compactedRows, grownRows, short, roomMade, compactSpec, copyOf, copyDecided, copyWritten, copySpec}
 use Rattle.store_definitions.specs.Adding.{pointLength, waits, tableFull, entriesFilled, addDecided, windowAfter, sequenced, rowOf, labelGiven, labelled, tableGrown, placed, joins, overflows, laidRows, laidHow, keptAfter, indexGiven, keeps, addSpec}
-use Rattle.store_definitions.specs.Bounds.{boundsHold, startAllowed, rotationAllowed, lentEnough}
+use Rattle.store_definitions.specs.Bounds.{boundsHold, rotationAllowed, labelsLent, lentEnough}
 use Rattle.store_definitions.specs.Decisions.{formDecided, live, touchDecided}
-use Rattle.store_definitions.specs.WellFormed.{freeStartWell, placesDistinct, placesEnd, pointsWell, wellFormed}
-use Rattle.guarantee.specs.Calls.{openCall, copyCall, countCall, liveNumberCall, freeStartCall}
-use Rattle.guarantee.specs.Run.{Call, add, inc, dec, adjust, compact, after, answerTo}
-use Rattle.guarantee.specs.History.{Given, dead, alive, History, pairChanges, pairsChanges, joinedPoints, rowOfAdd, changedBy, recorded, history}
+use Rattle.store_definitions.specs.WellFormed.{tableLengthWell, storeLengthWell, freeStartWell, emptyUncounted, placesDistinct, placesEnd, sequenceWell, wellFormed}
+use Rattle.guarantee.specs.Calls.{copyCall, countCall, liveNumberCall, freeStartCall}
+use Rattle.guarantee.specs.Run.{add, inc, dec, compact, after}
+use Rattle.guarantee.specs.History.{dead, alive, pairChanges, pairsChanges, joinedPoints, rowOfAdd, changedBy, recorded, history}
 use Rattle.guarantee.specs.Guarantee.{numberIn, liveIndices}
-
--- dimensions 4, shingle size 2, internal shingling, labels off, capacity 10, start 5, no rotation
-abbrev pub shape : Shape
-shape =
-    record {
-      dimensions = 4;
-      «shingle_size» = 2;
-      capacity = 10;
-      «initial_capacity» = 5;
-      «internal_shingling» = true;
-      «internal_rotation» = false;
-      «store_labels» = false;
-    }
-
--- memory for a shape without labels
-abbrev pub rubbish : Shape → Memory ℕ
-rubbish h =
-    record {
-      store = replicate (h .capacity * h .dimensions) 77;
-      lastKnownShingle = replicate (h .dimensions) 77;
-      referenceCount = replicate (h .capacity) 77;
-      location = replicate (h .capacity) 77;
-      indexStarts = replicate (h .capacity) 77;
-      indexEnds = replicate (h .capacity) 77;
-      labels = [];
-      labelAttributes = [];
-      labelCount = [];
-      labelStarts = [];
-      labelEnds = [];
-      attributes = [];
-      attributeCount = [];
-      attributeStarts = [];
-      attributeEnds = [];
-    }
-
-pub fresh : Shape → PointStore ℕ
-fresh h = opened 0 h (rubbish h)
-
-pub opens-fresh : openCall 0 shape (rubbish shape) ≡ opens (fresh shape)
-unfolding fresh openSpec openDecided boundsHold startAllowed lentEnough
-opens-fresh = refl
-
--- the lists, the last call first: A, B, C, the two adds that follow, and D
-abbrev pub listA : List (Call ℕ)
-listA = add (1 ∷ 2 ∷ []) 0 ∷ []
-
-abbrev pub listB : List (Call ℕ)
-listB = add (3 ∷ 4 ∷ []) 0 ∷ listA
-
-abbrev pub listC : List (Call ℕ)
-listC = add (5 ∷ 6 ∷ []) 0 ∷ listB
-
-abbrev pub listFour : List (Call ℕ)
-listFour = add (7 ∷ 8 ∷ []) 0 ∷ listC
-
-abbrev pub listFive : List (Call ℕ)
-listFive = add (9 ∷ 10 ∷ []) 0 ∷ listFour
-
-abbrev pub listD : List (Call ℕ)
-listD = compact ∷ dec 1 none ∷ dec 0 none ∷ listFive
-
--- after B: an inc, and an adjust of three pairs: one accepted, one skipped, one refused
-abbrev pub pair : (insert delete : ℕ) → Pairing
-pair insert delete = record { insertIndex = insert; insertLabel = none; deleteIndex = delete; deleteLabel = none }
-
-abbrev pub listAdjust : List (Call ℕ)
-listAdjust = adjust (pair 0 0 ∷ pair none 0 ∷ pair 0 7 ∷ []) ∷ inc 0 none ∷ listB
-
-abbrev pub past : List (Call ℕ) → History ℕ
-past calls = history eqb 0 shape (fresh shape) calls
-
-abbrev pub store : List (Call ℕ) → PointStore ℕ
-store calls = after eqb 0 (fresh shape) calls
-
--- dimensions 2, shingle size 2, capacity 2, start 2: two rows, the second joined, the first gone, and no room for one more
--- until compaction
-abbrev pub small : Bool → Shape
-small rotation =
-    record {
-      dimensions = 2;
-      «shingle_size» = 2;
-      capacity = 2;
-      «initial_capacity» = 2;
-      «internal_shingling» = false;
-      «internal_rotation» = rotation;
-      «store_labels» = false;
-    }
-
-abbrev pub listSmall : List (Call ℕ)
-listSmall = dec 0 none ∷ add (2 ∷ 3 ∷ []) 0 ∷ add (1 ∷ 2 ∷ []) 0 ∷ []
-
-abbrev pub third : Bool → Answer
-third rotation = answerTo eqb 0 (fresh (small rotation)) (add (9 ∷ 9 ∷ []) 0) listSmall
-
-pub opens-turning : openCall 0 (small true) (rubbish (small true)) ≡ opens (fresh (small true))
-unfolding fresh openSpec openDecided boundsHold startAllowed lentEnough
-opens-turning = refl
-
-abbrev pub gave : List (Call ℕ) → List ℕ → ℕ → Given ℕ
-gave calls row place = record { calls = calls; row = row; place = place }
+use Rattle.guarantee.specs.CaseLists.{plain, turning, smallPlain, smallTurning, smallLabelled, fresh, past, store, answer, gave, listA, listB, listC, listFour, listD, listG, listAdjust, refusedAdjust, listInsert, listSmall, third, listLabelled, listZeros, aNaN, listNaN}
 
 -- the clauses on these lists, computed
 pub record Computed : Type 0 where
-  -- (d): four kept adds less two decs; one kept add, two incs, one dec
-  pub d-d : sumBelow 10 (λ i. numberIn (countCall (store listD) i)) ≡ 2
-  pub d-adjusted : sumBelow 10 (λ i. numberIn (countCall (store listAdjust) i)) ≡ 2
+  -- (d): four kept adds less two decs; one kept add, two incs, one dec; one kept add and the inc of the pair that stands
+  pub d-d : sumBelow 10 (λ i. numberIn (countCall (store plain listD) i)) ≡ 2
+  pub d-adjusted : sumBelow 10 (λ i. numberIn (countCall (store plain listAdjust) i)) ≡ 2
+  pub d-insert : sumBelow 10 (λ i. numberIn (countCall (store plain listInsert) i)) ≡ 2
   -- (a)
-  pub a-waits : countCall (store listA) 0 ≡ refused 5
-  pub a-lives : countCall (store listD) 2 ≡ is 1
-  pub a-died : countCall (store listD) 0 ≡ refused 5
-  pub a-adjusted : countCall (store listAdjust) 0 ≡ is 2
+  pub a-waits : countCall (store plain listA) 0 ≡ refused 5
+  pub a-lives : countCall (store plain listD) 2 ≡ is 1
+  pub a-died : countCall (store plain listD) 0 ≡ refused 5
+  pub a-adjusted : countCall (store plain listAdjust) 0 ≡ is 2
+  -- the second pair of the adjust is refused, and the first stands
+  pub insert-refused : answer plain refusedAdjust listB ≡ refusedAfter 5 1
+  pub a-insert : countCall (store plain listInsert) 0 ≡ is 2
   -- (c): right after the add
-  pub c-b : copyCall (store listB) 0 (replicate 4 0) .out ≡ 1 ∷ 2 ∷ 3 ∷ 4 ∷ []
-  pub c-c : copyCall (store listC) 1 (replicate 4 0) .out ≡ 3 ∷ 4 ∷ 5 ∷ 6 ∷ []
-  pub c-four : copyCall (store listFour) 2 (replicate 4 0) .out ≡ 5 ∷ 6 ∷ 7 ∷ 8 ∷ []
+  pub c-b : copyCall (store plain listB) 0 (replicate 4 0) .out ≡ 1 ∷ 2 ∷ 3 ∷ 4 ∷ []
+  pub c-c : copyCall (store plain listC) 1 (replicate 4 0) .out ≡ 3 ∷ 4 ∷ 5 ∷ 6 ∷ []
+  pub c-four : copyCall (store plain listFour) 2 (replicate 4 0) .out ≡ 5 ∷ 6 ∷ 7 ∷ 8 ∷ []
   -- (b): and still after D
-  pub b-d : copyCall (store listD) 2 (replicate 4 0) .out ≡ 5 ∷ 6 ∷ 7 ∷ 8 ∷ []
+  pub b-d : copyCall (store plain listD) 2 (replicate 4 0) .out ≡ 5 ∷ 6 ∷ 7 ∷ 8 ∷ []
+  -- (b), (c) with rotation: after the compact of G the copy is the row turned
+  pub b-g : copyCall (store turning listG) 1 (replicate 4 0) ≡ output done (5 ∷ 6 ∷ 3 ∷ 4 ∷ [])
   -- (e), (f), and the readings
-  pub e-d : take 4 (store listD .memory .location) ≡ 65535 ∷ 65535 ∷ 0 ∷ 1 ∷ []
-  pub f-d : freeStartCall (store listD) ≡ is 6
-  pub number-d : liveNumberCall (store listD) ≡ is 2
+  pub e-d : take 4 (store plain listD .memory .location) ≡ 65535 ∷ 65535 ∷ 0 ∷ 1 ∷ []
+  pub f-d : freeStartCall (store plain listD) ≡ is 6
+  pub number-d : liveNumberCall (store plain listD) ≡ is 2
+  -- (f) with rotation: one live index, and its room of three floats is all used
+  pub f-small : freeStartCall (store smallTurning (compact ∷ listSmall)) ≡ is 3
   -- (g), (h): without rotation compaction makes room; with it none is made, and the bound says so
-  pub g-small : third false ≡ kept 0 none (Whole 2)
-  pub h-small : third true ≡ refused 10
+  pub g-small : answer smallPlain third listSmall ≡ kept 0 none (Whole 2)
+  pub h-small : answer smallTurning third listSmall ≡ refused 10
+  -- labels on: a code above 23, a label index not in use, and those that are
+  pub label-code : answer smallLabelled (add (3 ∷ 4 ∷ []) 24) [] ≡ refused 4
+  pub label-not-used : answer smallLabelled (inc 0 1) listLabelled ≡ refused 6
+  pub label-kept : answer smallLabelled (add (5 ∷ 6 ∷ []) 0) listLabelled ≡ kept 1 1 (Whole 2)
+  pub a-labelled : countCall (store smallLabelled listLabelled) 0 ≡ is 2
+  -- 0.0 and −0.0 are equal: the row is joined, and its zero takes the other sign
+  pub zeros-joined : answer smallPlain (add (minusZero ∷ 2 ∷ []) 0) (add (1 ∷ plusZero ∷ []) 0 ∷ []) ≡ kept 1 none (Joined 1)
+  pub c-zeros : copyCall (store smallPlain listZeros) 1 (replicate 2 0) .out ≡ plusZero ∷ 2 ∷ []
+  -- a NaN equals nothing: the row is laid whole, and its word comes back
+  pub nan-whole : answer smallPlain (add (aNaN ∷ 2 ∷ []) 0) (add (1 ∷ aNaN ∷ []) 0 ∷ []) ≡ kept 1 none (Whole 2)
+  pub c-nan : copyCall (store smallPlain listNaN) 1 (replicate 2 0) .out ≡ aNaN ∷ 2 ∷ []
 
 pub computed : Computed
-unfolding fresh openedMemory opened after history recorded changedBy pairChanges pairsChanges joinedPoints rowOfAdd liveIndices everyBelow sumBelow countBelow allEqual pushed changed taken released inside holders isFree inBounds noneShared capacityAllowed stackLent managerWellFormed wrappingSub wrappingAdd alignment zerosBefore pointRoom holds liveBelow moved grownBlocks blocks blockMoves copiedDown settled blockDown blocksDown writtenByBlocks compacted turn turned copied grown writtenCount laidAs laidElements laidFree placeOf overlaps rowToLay movedWindow countedWell indexTaken lowered liveNumber codeDecided roomDecided incDecided decDecided raised incTest incremented incSpec pairDecided pairDone adjustFrom adjustSpec decTest placeAfterDec decremented decSpec compactedRows grownRows short roomMade compactSpec copyOf pointLength waits tableFull entriesFilled addDecided windowAfter sequenced rowOf labelGiven labelled tableGrown placed joins overflows laidRows laidHow keptAfter indexGiven keeps addSpec boundsHold rotationAllowed lentEnough formDecided live touchDecided freeStartWell placesDistinct placesEnd pointsWell wellFormed liveNumberSpec freeStartSpec countSpec copyDecided copySpec
+unfolding fresh openedMemory opened after history recorded changedBy pairChanges pairsChanges joinedPoints rowOfAdd liveIndices everyBelow sumBelow countBelow allEqual pushed changed taken released inside holders isFree inBounds noneShared capacityAllowed stackLent managerWellFormed wrappingSub wrappingAdd alignment zerosBefore pointRoom holds liveBelow moved grownBlocks blocks blockMoves copiedDown settled blockDown blocksDown writtenByBlocks compacted turn turned copied grown writtenCount laidAs laidElements laidFree placeOf overlaps rowToLay movedWindow managed freeUncounted countsFit indexTaken lowered liveNumber codeDecided roomDecided incDecided decDecided raised incTest incremented incSpec pairDecided pairDone adjustFrom adjustSpec decTest placeAfterDec decremented decSpec compactedRows grownRows short roomMade compactSpec copyOf pointLength waits tableFull entriesFilled addDecided windowAfter sequenced rowOf labelGiven labelled tableGrown placed joins overflows laidRows laidHow keptAfter indexGiven keeps addSpec boundsHold rotationAllowed lentEnough formDecided live touchDecided tableLengthWell storeLengthWell freeStartWell emptyUncounted placesDistinct placesEnd sequenceWell wellFormed eq ofFields ofBits wordsEqual labelsLent labelsOpened labelsWell differ slotSum labelTaken slotTaken classSlot holdsClass tablesLent codesAllowed slotsHoldClasses classesDistinct slotsSummed labelRaised labelLowered firstBelow reasonClasses inUse liveNumberSpec freeStartSpec countSpec copyDecided copyWritten copySpec
 computed =
     record {
       d-d = refl;
       d-adjusted = refl;
+      d-insert = refl;
       a-waits = refl;
       a-lives = refl;
       a-died = refl;
       a-adjusted = refl;
+      insert-refused = refl;
+      a-insert = refl;
       c-b = refl;
       c-c = refl;
       c-four = refl;
       b-d = refl;
+      b-g = refl;
       e-d = refl;
       f-d = refl;
       number-d = refl;
+      f-small = refl;
       g-small = refl;
       h-small = refl;
+      label-code = refl;
+      label-not-used = refl;
+      label-kept = refl;
+      a-labelled = refl;
+      zeros-joined = refl;
+      c-zeros = refl;
+      nan-whole = refl;
+      c-nan = refl;
     }
 
 -- what the calls and their answers say
 pub record Said : Type 0 where
   -- A: the add waits
-  pub a : past listA .life 0 ≡ dead
+  pub a : past plain listA .life 0 ≡ dead
   -- B: index 0, place 0, the row 1 2 3 4; C: index 1, place 1, the row 3 4 5 6
-  pub b : past listB .life 0 ≡ alive 0 0 (gave listB (1 ∷ 2 ∷ 3 ∷ 4 ∷ []) 0)
-  pub c : past listC .life 1 ≡ alive 0 0 (gave listC (3 ∷ 4 ∷ 5 ∷ 6 ∷ []) 1)
+  pub b : past plain listB .life 0 ≡ alive 0 0 (gave listB (1 ∷ 2 ∷ 3 ∷ 4 ∷ []) 0)
+  pub c : past plain listC .life 1 ≡ alive 0 0 (gave listC (3 ∷ 4 ∷ 5 ∷ 6 ∷ []) 1)
   -- the accepted pair's inc and dec count, the refused one's not
-  pub adjusted : past listAdjust .life 0 ≡ alive 2 1 (gave listB (1 ∷ 2 ∷ 3 ∷ 4 ∷ []) 0)
+  pub adjusted : past plain listAdjust .life 0 ≡ alive 2 1 (gave listB (1 ∷ 2 ∷ 3 ∷ 4 ∷ []) 0)
+  pub inserted : past plain listInsert .life 0 ≡ alive 1 0 (gave listB (1 ∷ 2 ∷ 3 ∷ 4 ∷ []) 0)
   -- D: indices 0 and 1 are gone, index 2 is live since the add of 7 8
-  pub d-gone : past listD .life 0 ≡ dead
-  pub d-live : past listD .life 2 ≡ alive 0 0 (gave listFour (5 ∷ 6 ∷ 7 ∷ 8 ∷ []) 2)
-  pub d-adds : past listD .adds ≡ 4
-  pub d-incs : past listD .incs ≡ 0
-  pub d-decs : past listD .decs ≡ 2
-  pub d-number : liveIndices 10 (past listD) ≡ 2
+  pub d-gone : past plain listD .life 0 ≡ dead
+  pub d-live : past plain listD .life 2 ≡ alive 0 0 (gave listFour (5 ∷ 6 ∷ 7 ∷ 8 ∷ []) 2)
+  pub d-adds : past plain listD .adds ≡ 4
+  pub d-incs : past plain listD .incs ≡ 0
+  pub d-decs : past plain listD .decs ≡ 2
+  pub d-number : liveIndices 10 (past plain listD) ≡ 2
+  -- G, with rotation: index 1 is live since the add of 5 6
+  pub g-live : past turning listG .life 1 ≡ alive 0 0 (gave listC (3 ∷ 4 ∷ 5 ∷ 6 ∷ []) 1)
+  -- the small lists
+  pub small-number : liveIndices 2 (past smallTurning (compact ∷ listSmall)) ≡ 1
+  pub labelled : past smallLabelled listLabelled .life 0 ≡ alive 1 0 (gave (add (1 ∷ 2 ∷ []) 7 ∷ []) (1 ∷ 2 ∷ []) 0)
+  pub labelled-gone : past smallLabelled listLabelled .life 1 ≡ dead
+  pub zeros : past smallPlain listZeros .life 1 ≡ alive 0 0 (gave listZeros (minusZero ∷ 2 ∷ []) 1)
+  pub nan : past smallPlain listNaN .life 1 ≡ alive 0 0 (gave listNaN (aNaN ∷ 2 ∷ []) 2)
 
 pub said : Said
-unfolding fresh openedMemory opened after history recorded changedBy pairChanges pairsChanges joinedPoints rowOfAdd liveIndices everyBelow sumBelow countBelow allEqual pushed changed taken released inside holders isFree inBounds noneShared capacityAllowed stackLent managerWellFormed wrappingSub wrappingAdd alignment zerosBefore pointRoom holds liveBelow moved grownBlocks blocks blockMoves copiedDown settled blockDown blocksDown writtenByBlocks compacted turn turned copied grown writtenCount laidAs laidElements laidFree placeOf overlaps rowToLay movedWindow countedWell indexTaken lowered liveNumber codeDecided roomDecided incDecided decDecided raised incTest incremented incSpec pairDecided pairDone adjustFrom adjustSpec decTest placeAfterDec decremented decSpec compactedRows grownRows short roomMade compactSpec copyOf pointLength waits tableFull entriesFilled addDecided windowAfter sequenced rowOf labelGiven labelled tableGrown placed joins overflows laidRows laidHow keptAfter indexGiven keeps addSpec boundsHold rotationAllowed lentEnough formDecided live touchDecided freeStartWell placesDistinct placesEnd pointsWell wellFormed
-said = record { a = refl; b = refl; c = refl; adjusted = refl; d-gone = refl; d-live = refl; d-adds = refl; d-incs = refl; d-decs = refl; d-number = refl }
+unfolding fresh openedMemory opened after history recorded changedBy pairChanges pairsChanges joinedPoints rowOfAdd liveIndices everyBelow sumBelow countBelow allEqual pushed changed taken released inside holders isFree inBounds noneShared capacityAllowed stackLent managerWellFormed wrappingSub wrappingAdd alignment zerosBefore pointRoom holds liveBelow moved grownBlocks blocks blockMoves copiedDown settled blockDown blocksDown writtenByBlocks compacted turn turned copied grown writtenCount laidAs laidElements laidFree placeOf overlaps rowToLay movedWindow managed freeUncounted countsFit indexTaken lowered liveNumber codeDecided roomDecided incDecided decDecided raised incTest incremented incSpec pairDecided pairDone adjustFrom adjustSpec decTest placeAfterDec decremented decSpec compactedRows grownRows short roomMade compactSpec copyOf pointLength waits tableFull entriesFilled addDecided windowAfter sequenced rowOf labelGiven labelled tableGrown placed joins overflows laidRows laidHow keptAfter indexGiven keeps addSpec boundsHold rotationAllowed lentEnough formDecided live touchDecided tableLengthWell storeLengthWell freeStartWell emptyUncounted placesDistinct placesEnd sequenceWell wellFormed eq ofFields ofBits wordsEqual labelsLent labelsOpened labelsWell differ slotSum labelTaken slotTaken classSlot holdsClass tablesLent codesAllowed slotsHoldClasses classesDistinct slotsSummed labelRaised labelLowered firstBelow reasonClasses inUse
+said =
+    record {
+      a = refl;
+      b = refl;
+      c = refl;
+      adjusted = refl;
+      inserted = refl;
+      d-gone = refl;
+      d-live = refl;
+      d-adds = refl;
+      d-incs = refl;
+      d-decs = refl;
+      d-number = refl;
+      g-live = refl;
+      small-number = refl;
+      labelled = refl;
+      labelled-gone = refl;
+      zeros = refl;
+      nan = refl;
+    }

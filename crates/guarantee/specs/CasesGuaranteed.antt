@@ -1,52 +1,79 @@
--- The list guarantee is not empty: instantiated at the worked lists, it gives what the lists show.
+-- The list guarantee is not empty: instantiated at the lists, it gives what they show.
 use Prim.Native.Nat.{ℕ, _+_, _*_, _≤_}
 use native.Mathlib.Omega.{arith}
-use mathlib.Core.Bool.{true}
 use mathlib.Core.List.{List, [], _∷_}
 use mathlib.Core.Path.{_≡_, refl, ap, _∙_}
 use lib.ListN.{replicate}
-use lib.Dec.{eqb}
+use Rattle.float_bits.specs.Words.{minusZero, wordsEqual}
 use Rattle.terms.specs.Below.{sumBelow}
 use Rattle.placement.specs.Alike.{Alike}
-use Rattle.placement.specs.AlignmentLaws.{pointRoom}
+use Rattle.placement.specs.Growth.{grown}
 use Rattle.placement.specs.Copying.{turn, turned}
 use Rattle.labels.specs.Decisions.{none}
+use Rattle.store_definitions.specs.declared.Shape.{Shape}
 use Rattle.store_definitions.specs.Answers.{done, is, refused}
 use Rattle.guarantee.specs.Calls.{copyCall, countCall, liveNumberCall}
-use Rattle.guarantee.specs.Run.{Call, add, dec, after}
-use Rattle.guarantee.specs.History.{history}
+use Rattle.guarantee.specs.Run.{Call, add, dec, compact}
 use Rattle.guarantee.specs.Guarantee.{countAnswer, numberIn, liveIndices, Guarantee}
 use Rattle.guarantee.specs.Theorem.{guaranteed}
-use Rattle.guarantee.specs.Cases.{shape, rubbish, fresh, opens-fresh, listA, listB, listC, listFour, listFive, listD, listAdjust, store, small, listSmall, opens-turning, gave, computed, said}
+use Rattle.guarantee.specs.CaseLists.{plain, turning, smallPlain, smallTurning, smallLabelled, rubbish, fresh, opening, past, store, gave, listA, listB, listC, listFour, listFive, listD, listG, listAdjust, listInsert, listSmall, third, listLabelled, listZeros, aNaN, listNaN}
+use Rattle.guarantee.specs.Cases.{computed, said}
 
 -- what the guarantee gives of them
 record Gives : Type 0 where
-  a-count : countCall (store listA) 0 ≡ refused 5
-  b-count : countCall (store listB) 0 ≡ is 1
-  c-copy : Alike eqb (copyCall (store listC) 1 (replicate 4 0) .out) (3 ∷ 4 ∷ 5 ∷ 6 ∷ [])
-  adjusted-count : countCall (store listAdjust) 0 ≡ is 2
-  d-refused : countCall (store listD) 0 ≡ refused 5
-  d-count : countCall (store listD) 2 ≡ is 1
-  d-kept : copyCall (store listD) 2 (replicate 4 0) ≡ copyCall (store listFour) 2 (replicate 4 0)
-  d-done : copyCall (store listD) 2 (replicate 4 0) .answer ≡ done
-  d-copy : Alike eqb (copyCall (store listD) 2 (replicate 4 0) .out) (5 ∷ 6 ∷ 7 ∷ 8 ∷ [])
-  d-sum : sumBelow 10 (λ i. numberIn (countCall (store listD) i)) ≡ 2
-  d-room : store listD .header .«start_free_region» ≤ 8
-  d-number : liveNumberCall (store listD) ≡ is 2
-  -- a live point's room of 3 floats and 2 floats more do not fit the store length
-  h-bound : liveIndices 2 (history eqb 0 (small true) (fresh (small true)) listSmall) * 3 + 2 ≤ after eqb 0 (fresh (small true)) listSmall .header .«store_length» → ⊥
+  a-count : countCall (store plain listA) 0 ≡ refused 5
+  b-count : countCall (store plain listB) 0 ≡ is 1
+  c-copy : Alike wordsEqual (copyCall (store plain listC) 1 (replicate 4 0) .out) (3 ∷ 4 ∷ 5 ∷ 6 ∷ [])
+  adjusted-count : countCall (store plain listAdjust) 0 ≡ is 2
+  inserted-count : countCall (store plain listInsert) 0 ≡ is 2
+  d-refused : countCall (store plain listD) 0 ≡ refused 5
+  d-count : countCall (store plain listD) 2 ≡ is 1
+  d-kept : copyCall (store plain listD) 2 (replicate 4 0) ≡ copyCall (store plain listFour) 2 (replicate 4 0)
+  d-done : copyCall (store plain listD) 2 (replicate 4 0) .answer ≡ done
+  d-copy : Alike wordsEqual (copyCall (store plain listD) 2 (replicate 4 0) .out) (5 ∷ 6 ∷ 7 ∷ 8 ∷ [])
+  d-sum : sumBelow 10 (λ i. numberIn (countCall (store plain listD) i)) ≡ 2
+  d-room : store plain listD .header .«start_free_region» ≤ 8
+  d-number : liveNumberCall (store plain listD) ≡ is 2
+  g-kept : copyCall (store turning listG) 1 (replicate 4 0) ≡ copyCall (store turning listC) 1 (replicate 4 0)
+  g-copy : Alike wordsEqual (copyCall (store turning listG) 1 (replicate 4 0) .out) (5 ∷ 6 ∷ 3 ∷ 4 ∷ [])
+  -- the room of one live index, which is all used
+  small-room : store smallTurning (compact ∷ listSmall) .header .«start_free_region» ≤ 3
+  -- a live point's room of 3 floats and 2 floats more do not fit the store length, which is the largest
+  h-bound : liveIndices 2 (past smallTurning listSmall) * 3 + 2 ≤ grown (store smallTurning listSmall .header .«store_length») 0 4 → ⊥
+  labelled-count : countCall (store smallLabelled listLabelled) 0 ≡ is 2
+  labelled-gone : countCall (store smallLabelled listLabelled) 1 ≡ refused 5
+  labelled-copy : Alike wordsEqual (copyCall (store smallLabelled listLabelled) 0 (replicate 2 0) .out) (1 ∷ 2 ∷ [])
+  -- each the same word or equal: the zero may have the other sign, the NaN is the same word
+  zeros-copy : Alike wordsEqual (copyCall (store smallPlain listZeros) 1 (replicate 2 0) .out) (minusZero ∷ 2 ∷ [])
+  nan-copy : Alike wordsEqual (copyCall (store smallPlain listNaN) 1 (replicate 2 0) .out) (aNaN ∷ 2 ∷ [])
 
-abbrev holding : (calls : List (Call ℕ)) → Guarantee eqb 0 shape (fresh shape) calls
-holding calls = guaranteed eqb 0 shape (fresh shape) (rubbish shape) opens-fresh calls
+abbrev Holding : Shape → List (Call ℕ) → Type 0
+Holding h calls = Guarantee wordsEqual 0 h (fresh h) calls
+
+abbrev holding : (calls : List (Call ℕ)) → Holding plain calls
+holding calls = guaranteed wordsEqual 0 plain (fresh plain) (rubbish plain) (opening .plain) calls
+
+abbrev holding-turning : (calls : List (Call ℕ)) → Holding turning calls
+holding-turning calls = guaranteed wordsEqual 0 turning (fresh turning) (rubbish turning) (opening .turning) calls
+
+abbrev holding-small : (calls : List (Call ℕ)) → Holding smallPlain calls
+holding-small calls = guaranteed wordsEqual 0 smallPlain (fresh smallPlain) (rubbish smallPlain) (opening .small-plain) calls
+
+abbrev holding-small-turning : (calls : List (Call ℕ)) → Holding smallTurning calls
+holding-small-turning calls = guaranteed wordsEqual 0 smallTurning (fresh smallTurning) (rubbish smallTurning) (opening .small-turning) calls
+
+abbrev holding-labelled : (calls : List (Call ℕ)) → Holding smallLabelled calls
+holding-labelled calls = guaranteed wordsEqual 0 smallLabelled (fresh smallLabelled) (rubbish smallLabelled) (opening .small-labelled) calls
 
 gives : Gives
-unfolding turn turned pointRoom
+unfolding turn turned grown
 gives =
     record {
       a-count = holding listA .counts 0 ∙ ap countAnswer (said .a);
       b-count = holding listB .counts 0 ∙ ap countAnswer (said .b);
       c-copy = holding listC .copies-row 1 (gave listC (3 ∷ 4 ∷ 5 ∷ 6 ∷ []) 1) (0, 0, said .c) (replicate 4 0) refl .1;
       adjusted-count = holding listAdjust .counts 0 ∙ ap countAnswer (said .adjusted);
+      inserted-count = holding listInsert .counts 0 ∙ ap countAnswer (said .inserted);
       d-refused = holding listD .counts 0 ∙ ap countAnswer (said .d-gone);
       d-count = holding listD .counts 2 ∙ ap countAnswer (said .d-live);
       d-kept = holding listD .copies-kept 2 (gave listFour (5 ∷ 6 ∷ 7 ∷ 8 ∷ []) 2) (0, 0, said .d-live) (replicate 4 0);
@@ -55,5 +82,13 @@ gives =
       d-sum = omega (arith, holding listD .sum, said .d-adds, said .d-incs, said .d-decs);
       d-room = rw (said .d-number) at (holding listD .compact-room (dec 1 none ∷ dec 0 none ∷ listFive) refl);
       d-number = holding listD .live-number ∙ ap is (said .d-number);
-      h-bound = λ fits. guaranteed eqb 0 (small true) (fresh (small true)) (rubbish (small true)) opens-turning (add (9 ∷ 9 ∷ []) 0 ∷ listSmall) .float-space-within .0 fits (computed .h-small);
+      g-kept = holding-turning listG .copies-kept 1 (gave listC (3 ∷ 4 ∷ 5 ∷ 6 ∷ []) 1) (0, 0, said .g-live) (replicate 4 0);
+      g-copy = holding-turning listG .copies-row 1 (gave listC (3 ∷ 4 ∷ 5 ∷ 6 ∷ []) 1) (0, 0, said .g-live) (replicate 4 0) refl .1;
+      small-room = rw (said .small-number) at (holding-small-turning (compact ∷ listSmall) .compact-room listSmall refl);
+      h-bound = λ fits. holding-small-turning (third ∷ listSmall) .float-space-within .0 fits (computed .h-small);
+      labelled-count = holding-labelled listLabelled .counts 0 ∙ ap countAnswer (said .labelled);
+      labelled-gone = holding-labelled listLabelled .counts 1 ∙ ap countAnswer (said .labelled-gone);
+      labelled-copy = holding-labelled listLabelled .copies-row 0 (gave (add (1 ∷ 2 ∷ []) 7 ∷ []) (1 ∷ 2 ∷ []) 0) (1, 0, said .labelled) (replicate 2 0) refl .1;
+      zeros-copy = holding-small listZeros .copies-row 1 (gave listZeros (minusZero ∷ 2 ∷ []) 1) (0, 0, said .zeros) (replicate 2 0) refl .1;
+      nan-copy = holding-small listNaN .copies-row 1 (gave listNaN (aNaN ∷ 2 ∷ []) 2) (0, 0, said .nan) (replicate 2 0) refl .1;
     }

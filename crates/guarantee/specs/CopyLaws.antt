@@ -9,13 +9,13 @@ use Rattle.store_definitions.specs.Answers.{is}
 use Rattle.store_definitions.specs.Parts.{tableLength}
 use Rattle.store_definitions.specs.Decisions.{formDecided, touchDecided, live}
 use Rattle.store_definitions.specs.Counting.{countSpec}
-use Rattle.store_definitions.specs.Rows.{copyOf, copyDecided, copySpec}
+use Rattle.store_definitions.specs.Rows.{copyOf, copyDecided, copyWritten, copySpec}
 use Rattle.store_laws.specs.Sound.{Sound, sound-make}
 use Rattle.guarantee.specs.Relates.{copyAnswer}
 
 module _ {E : Type 0} (p : PointStore E) (w : Sound p) (i : ℕ) (listed : i < tableLength (p .header)) (counted : 0 < getD (p .memory .referenceCount) i 0) where
   pub copy-answer : (out : List E) → copySpec p i out ≡ copyAnswer (p .header .dimensions) (copyOf p i) out
-  unfolding copySpec copyDecided formDecided touchDecided live
+  unfolding copySpec copyWritten copyDecided formDecided touchDecided live
   copy-answer out = rw (sound-make p w, lt-ltb i (tableLength (p .header)) listed, lt-ltb 0 (getD (p .memory .referenceCount) i 0) counted)
 
   pub count-answer : countSpec p i ≡ is (getD (p .memory .referenceCount) i 0)

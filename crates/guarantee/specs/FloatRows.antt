@@ -11,7 +11,7 @@ use Rattle.placement.specs.Alike.{Alike}
 use Rattle.placement.specs.Copying.{turn, turned}
 use Rattle.store_definitions.specs.declared.Shape.{Shape}
 use Rattle.store_definitions.specs.Memory.{Memory, PointStore}
-use Rattle.store_definitions.specs.Opening.{opens}
+use Rattle.store_definitions.specs.Answers.{done, outcome}
 use Rattle.guarantee.specs.Calls.{openCall, copyCall}
 use Rattle.guarantee.specs.Run.{Call, after}
 use Rattle.guarantee.specs.History.{Given, history}
@@ -58,7 +58,7 @@ words-turned : (dims t : ℕ) (xs : List ℕ) → Words xs → Words (turned dim
 unfolding turned
 words-turned dims t xs h = words-append (drop (dims - t) xs) (take (dims - t) xs) (words-drop (dims - t) xs h) (words-take (dims - t) xs h)
 
-module _ (h : Shape) (m : Memory ℕ) (start : PointStore ℕ) (accepted : openCall plusZero h m ≡ opens start) (calls : List (Call ℕ)) where
+module _ (h : Shape) (m : Memory ℕ) (start : PointStore ℕ) (accepted : openCall plusZero h m ≡ outcome done start) (calls : List (Call ℕ)) where
   abbrev p : PointStore ℕ
   p = after wordsEqual plusZero start calls
 

@@ -6,6 +6,7 @@ use mathlib.Core.List.{List}
 use mathlib.Core.Path.{_≡_, refl, sym, ap, _∙_}
 use Rattle.interval_store_manager.specs.Calls.{go, refuse}
 use Rattle.placement.specs.AlignmentLaws.{pointRoom}
+use Rattle.placement.specs.Growth.{grown}
 use Rattle.placement.specs.declared.Laid.{Laid}
 use Rattle.store_definitions.specs.declared.Shape.{Shape}
 use Rattle.store_definitions.specs.Memory.{PointStore}
@@ -49,7 +50,7 @@ module _ {E : Type 0} (eq : E → E → Bool) (zeroElement : E) (p : PointStore 
           → (d ≡ keep) × (overflows eq (p .header) (roomMade zeroElement (p .header) (rowsOf p)) (rowOf p point) ≡ true)
       split keep e a = (
         refl,
-        full-room (overflows eq (p .header) (roomMade zeroElement (p .header) (rowsOf p)) (rowOf p point)) (withRows (roomMade zeroElement (p .header) (rowsOf p)) p) (keptAfter eq zeroElement p point code) (indexGiven eq zeroElement p) (labelGiven p) (laidHow eq (p .header) (roomMade zeroElement (p .header) (rowsOf p)) (rowOf p point)) a,
+        full-room (overflows eq (p .header) (roomMade zeroElement (p .header) (rowsOf p)) (rowOf p point)) (withRows (roomMade zeroElement (p .header) (rowsOf p)) p) (keptAfter eq (roomMade zeroElement (p .header) (rowsOf p)) (rowOf p point) p point code) (indexGiven p) (labelGiven p) (laidHow eq (p .header) (roomMade zeroElement (p .header) (rowsOf p)) (rowOf p point)) a,
       )
       split wait e a = absurd (let z : _≡_ {A = ℕ} 0 1 = cc in omega arith)
       split (refuseAdd n) e a = absurd (decided-not-ten f (e ∙ ap refuseAdd (let q : n ≡ 10 = cc in q)))
@@ -57,13 +58,13 @@ module _ {E : Type 0} (eq : E → E → Bool) (zeroElement : E) (p : PointStore 
   module _ (h : Shape) (then : Given E → PointStore E) (s : History E) (f : wellFormed p ≡ true) (r : Relates eq h then s p) where
     pub space-refusal : addSpec eq zeroElement p point code .answer ≡ refused 10
         → (h .«internal_rotation» ≡ true)
-        × (p .header .«store_length» < liveIndices (h .capacity) s * pointRoom (h .«internal_rotation») (h .dimensions) (h .dimensions / h .«shingle_size») + h .dimensions)
+        × (grown (p .header .«store_length») 0 (h .capacity * h .dimensions) < liveIndices (h .capacity) s * pointRoom (h .«internal_rotation») (h .dimensions) (h .dimensions / h .«shingle_size») + h .dimensions)
     space-refusal e =
         let w = sound p f in
         let t = ten f e in
         let k = keeps-on p point code (t .0) in (
           turns (h .«internal_rotation») refl (λ off. unturned-fits p w zeroElement eq (rowOf p point) (t .1) (r .fits .rotation ∙ off) (k .not-full) (r .space)),
-          rw (live-number-is eq h then s p w r, ← (r .fits .dimensions), ← (r .fits .shingle), ← (r .fits .rotation)) (refused-bound p w zeroElement eq (rowOf p point) (t .1)),
+          rw (live-number-is eq h then s p w r, ← (r .fits .dimensions), ← (r .fits .shingle), ← (r .fits .rotation), ← (r .fits .capacity)) (refused-bound p w zeroElement eq (rowOf p point) (t .1)),
         )
       where
         turns : (b : Bool) → h .«internal_rotation» ≡ b → (h .«internal_rotation» ≡ false → ⊥) → h .«internal_rotation» ≡ true

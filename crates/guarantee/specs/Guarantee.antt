@@ -1,14 +1,14 @@
 -- The list guarantee: what holds after every list of calls on a fresh store. One record, with a field for each clause. What is
 -- said of calls is said of their answers alone; the history comes from the calls and their answers.
-use Prim.Native.Nat.{ℕ, _+_, _*_, _/_, _≤_, _<_}
-use mathlib.Core.Bool.{Bool, true, false}
+use Prim.Native.Nat.{ℕ, _+_, _*_, _-_, _/_, _≤_, _<_}
+use mathlib.Core.Bool.{Bool, true, false, cond}
 use mathlib.Core.List.{List, [], _∷_}
 use mathlib.Core.Path.{_≡_}
 use lib.ListN.{length, getD}
 use Rattle.terms.specs.Below.{sumBelow, countBelow}
 use Rattle.placement.specs.Alike.{Alike}
-use Rattle.placement.specs.AlignmentLaws.{pointRoom}
 use Rattle.placement.specs.Copying.{turn, turned}
+use Rattle.placement.specs.Growth.{grown}
 use Rattle.store_definitions.specs.declared.Shape.{Shape}
 use Rattle.store_definitions.specs.Memory.{PointStore}
 use Rattle.store_definitions.specs.Answers.{Answer, kept, waiting, done, is, says, refused, refusedAfter}
@@ -50,7 +50,7 @@ module _ {E : Type 0} (eq : E → E → Bool) (zeroElement : E) (h : Shape) (sta
 
   -- a point's room after a compact: dimensions, or with rotation 2 × dimensions − base
   abbrev pub room : ℕ
-  room = pointRoom (h .«internal_rotation») (h .dimensions) base
+  room = cond (h .«internal_rotation») (2 * h .dimensions - base) (h .dimensions)
 
   abbrev pub past : List (Call E) → History E
   past calls = history eq zeroElement h start calls
@@ -66,11 +66,14 @@ module _ {E : Type 0} (eq : E → E → Bool) (zeroElement : E) (h : Shape) (sta
   NotShort (adjust pairs) before = Unit {0}
   NotShort compact before = Unit {0}
 
-  -- one that is not while the room of the live indices plus dimensions, counted before it, fits the store length
+  -- the store length that growth would give
+  abbrev pub lengthGrown : List (Call E) → ℕ
+  lengthGrown calls = grown (storeAfter calls .header .«store_length») 0 (h .capacity * h .dimensions)
+
+  -- one that is not while the room of the live indices plus dimensions, counted before it, fits that length
   abbrev pub NotShortWithin : Call E → List (Call E) → Type 0
   NotShortWithin c before =
-      liveIndices (h .capacity) (past before) * room + h .dimensions ≤ storeAfter before .header .«store_length»
-      → NotShort c before
+      liveIndices (h .capacity) (past before) * room + h .dimensions ≤ lengthGrown before → NotShort c before
 
   pub record Guarantee (calls : List (Call E)) : Type 0 where
     -- (a) the count call answers for live indices and no others, with one plus incs less decs accepted since the add that last
@@ -97,7 +100,7 @@ module _ {E : Type 0} (eq : E → E → Bool) (zeroElement : E) (h : Shape) (sta
         → storeAfter calls .header .«start_free_region» ≤ liveIndices (h .capacity) (past calls) * room
     -- (g) without rotation no add of the list is refused for float space
     pub float-space : h .«internal_rotation» ≡ false → EachCall NotShort calls
-    -- (h) with it none is while that bound plus dimensions, counted before the add, fits the store length
+    -- (h) with it none is while that bound plus dimensions, counted before the add, fits the store length that growth would give
     pub float-space-within : EachCall NotShortWithin calls
     -- the live-number and free-start calls
     pub live-number : liveNumberCall (storeAfter calls) ≡ is (liveIndices (h .capacity) (past calls))

@@ -2,6 +2,7 @@ pub mod Calls
 pub mod Run
 pub mod History
 pub mod Guarantee
+pub mod CaseLists
 pub mod Cases
 pub mod Relates
 pub mod LifeLaws

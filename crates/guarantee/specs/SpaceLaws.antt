@@ -114,7 +114,7 @@ module _ {E : Type 0} (p : PointStore E) (w : Sound p) where
     free-most : compactFree ≤ liveNumber n (pointTable p) * room
     free-most = rw (sym points-number) (compact-free zeroElement (p .header) (w .table-within) (rowsOf p) (w .rows))
 
-    pub refused-bound : p .header .«store_length» < liveNumber n (pointTable p) * room + p .header .dimensions
+    pub refused-bound : grown (p .header .«store_length») 0 (p .header .capacity * p .header .dimensions) < liveNumber n (pointTable p) * room + p .header .dimensions
     refused-bound = omega (arith, left, free-most)
 
     pub unturned-fits : p .header .«internal_rotation» ≡ false → tableFull (p .header) ≡ false → Roomy (p .header) → ⊥

@@ -10,19 +10,18 @@ use lib.Seq.{getD-take}
 use lib.Dec.{ltb}
 use borrow.Author.Tests.{eq-eqb, le-ltb}
 use Rattle.terms.specs.Below.{sumBelow, fails, sum-same, sum-beyond}
-use Rattle.interval_store_manager.specs.Calls.{Decided, go, refuse}
+use Rattle.interval_store_manager.specs.Calls.{Decided}
 use Rattle.placement.specs.AlignmentLaws.{pointRoom}
 use Rattle.store_definitions.specs.declared.Shape.{Shape}
 use Rattle.store_definitions.specs.Memory.{Memory, PointStore}
 use Rattle.store_definitions.specs.Answers.{is, done, outcome, Output, output}
 use Rattle.store_definitions.specs.Parts.{tableLength, rowsOf, withRows}
-use Rattle.store_definitions.specs.Opening.{opens, openDecided, opened, openCarriedOut, openSpec}
 use Rattle.store_definitions.specs.Decisions.{touchDecided, live, carriedOut}
 use Rattle.store_definitions.specs.Counting.{countSpec, liveNumberSpec, freeStartSpec}
 use Rattle.store_definitions.specs.Rows.{copyOf, compactSpec, compactedRows}
 use Rattle.store_definitions.specs.WellFormed.{wellFormed}
 use Rattle.store_laws.specs.Sound.{Sound, sound, place-ends}
-use Rattle.store_laws.specs.OpeningLaws.{open-accepted, opening-well-formed}
+use Rattle.store_laws.specs.OpeningLaws.{open-accepted, open-done, opening-well-formed}
 use Rattle.guarantee.specs.Calls.{openCall, copyCall, countCall, liveNumberCall, freeStartCall}
 use Rattle.guarantee.specs.Run.{Call, add, inc, dec, adjust, compact, after}
 use Rattle.guarantee.specs.History.{Given, Life, dead, alive, count, isLive, History, history, recorded, changedBy, nothing}
@@ -142,6 +141,7 @@ module _ {E : Type 0} (eq : E → E → Bool) (zeroElement : E) (h : Shape) (sta
 
     -- (h)
     not-short-within : (c : Call E) → NotShortWithin eq zeroElement h start c calls
+    unfolding pointRoom
     not-short-within (add point code) fits = λ e. omega (arith, fits, space-refusal eq zeroElement p point code h then s (holds .well-formed) r e .1)
     not-short-within (inc i l) fits = tt
     not-short-within (dec i l) fits = tt
@@ -166,19 +166,15 @@ module _ {E : Type 0} (eq : E → E → Bool) (zeroElement : E) (h : Shape) (sta
           relates = call-kept eq zeroElement h then calls s p w r c (holds .well-formed) (λ row place. refl);
         }
 
-  module _ (m : Memory E) (accepted : openCall zeroElement h m ≡ opens start) where
+  module _ (m : Memory E) (accepted : openCall zeroElement h m ≡ outcome done start) where
     begin : Holds []
-    unfolding after history openSpec
-    begin = split (openDecided h m) refl accepted
-      where
-        split : (d : Decided) → openDecided h m ≡ d → openCarriedOut zeroElement d h m ≡ opens start → Holds []
-        split go f q =
-            let is : start ≡ opened zeroElement h m = cc in
-            record {
-              well-formed = opening-well-formed h m zeroElement start accepted;
-              relates = subst (Relates eq h then nothing) (sym is) (fresh eq zeroElement h m then (open-accepted h m f .enough .points-lent .window-lent));
-            }
-        split (refuse n) f q = absurd (let z : _≡_ {A = ℕ} 0 1 = cc in omega arith)
+    unfolding after history
+    begin =
+        let d = open-done h m zeroElement start accepted in
+        record {
+          well-formed = opening-well-formed h m zeroElement start accepted;
+          relates = subst (Relates eq h then nothing) (sym (d .1)) (fresh eq zeroElement h m then (open-accepted h m (d .0) .enough .points-lent .window-lent));
+        }
 
     run : (calls : List (Call E)) → Holds calls
     run [] = begin
@@ -194,6 +190,7 @@ module _ {E : Type 0} (eq : E → E → Bool) (zeroElement : E) (h : Shape) (sta
 
     -- the list guarantee
     pub guaranteed : (calls : List (Call E)) → Guarantee eq zeroElement h start calls
+    unfolding pointRoom
     guaranteed calls =
         let holds = run calls in
         let r = holds .relates in

@@ -3,13 +3,13 @@
 use Prim.Native.Nat.{ℕ, _+_, _-_}
 use mathlib.Core.List.{List}
 use mathlib.Core.Bool.{cond, _&&_, _||_}
-use lib.ListN.{getD, set}
+use lib.ListN.{set}
 use lib.Dec.{leb, ltb, eqb}
 use Rattle.terms.specs.Refusals.{number}
 use Rattle.interval_store_manager.specs.declared.IntervalStoreManager.{IntervalStoreManager}
 use Rattle.interval_store_manager.specs.declared.Decision.{Decision}
 use Rattle.interval_store_manager.specs.declared.Decision.the-variants.{Go, Refuse}
-use Rattle.interval_store_manager.specs.Intervals.{isFree, freeNumber}
+use Rattle.interval_store_manager.specs.Intervals.{atTop, isFree, freeNumber}
 use Rattle.interval_store_manager.specs.WellFormed.{capacityAllowed, lentEnough, wellFormed}
 use Rattle.interval_store_manager.specs.Answers.{Answer, opened, done, given, holds, says, refused, Opening, opening, Outcome, outcome}
 
@@ -58,10 +58,10 @@ changeSpec m starts ends new = carriedOut (changeDecided m starts ends new) m st
 -- 'Get takes the top's start; the interval is popped if that was its end.'
 unfoldable pub taken : IntervalStoreManager → List ℕ → List ℕ → Outcome
 taken m starts ends =
-    let top = m .last_in_use - 1 in
-    let start = getD starts top 0 in
-    cond (eqb start (getD ends top 0)) (outcome (given start) (manager (m .capacity) top) starts ends)
-    (outcome (given start) m (set starts top (start + 1)) ends)
+    let n = m .last_in_use in
+    let start = atTop n starts in
+    cond (eqb start (atTop n ends)) (outcome (given start) (manager (m .capacity) (n - 1)) starts ends)
+    (outcome (given start) m (set starts (n - 1) (start + 1)) ends)
 
 unfoldable pub getDecided : IntervalStoreManager → List ℕ → List ℕ → Decided
 getDecided m starts ends = cond (wellFormed m starts ends) (cond (eqb (m .last_in_use) 0) (refuse 9) go) (refuse 1)
@@ -73,10 +73,10 @@ getSpec m starts ends = carriedOut (getDecided m starts ends) m starts ends (tak
 -- is pushed. No other merging; entries past the stack's top keep what they held.'
 unfoldable pub released : IntervalStoreManager → List ℕ → List ℕ → ℕ → Outcome
 released m starts ends i =
-    let top = m .last_in_use - 1 in
-    cond (ltb 0 (m .last_in_use) && eqb (getD starts top 0) (i + 1)) (outcome done m (set starts top i) ends)
-    (cond (ltb 0 (m .last_in_use) && eqb (getD ends top 0 + 1) i) (outcome done m starts (set ends top i))
-    (pushed done (m .capacity) (m .last_in_use) starts ends i i))
+    let n = m .last_in_use in
+    cond (ltb 0 n && eqb (atTop n starts) (i + 1)) (outcome done m (set starts (n - 1) i) ends)
+    (cond (ltb 0 n && eqb (atTop n ends + 1) i) (outcome done m starts (set ends (n - 1) i))
+    (pushed done (m .capacity) n starts ends i i))
 
 unfoldable pub releaseDecided : IntervalStoreManager → List ℕ → List ℕ → ℕ → Decided
 releaseDecided m starts ends i =

@@ -11,7 +11,7 @@ use lib.Dec.{eqb}
 use borrow.Author.Tests.{eq-eqb, ne-eqb, lt-ltb}
 use Rattle.terms.specs.Below.{one}
 use Rattle.interval_store_manager.specs.declared.IntervalStoreManager.{IntervalStoreManager}
-use Rattle.interval_store_manager.specs.Intervals.{inside, holders, isFree, freeNumber}
+use Rattle.interval_store_manager.specs.Intervals.{atTop, inside, holders, isFree, freeNumber}
 use Rattle.interval_store_manager.specs.WellFormed.{wellFormed}
 use Rattle.interval_store_manager.specs.Answers.{Outcome, outcome, given}
 use Rattle.interval_store_manager.specs.Calls.{manager, taken}
@@ -21,43 +21,39 @@ use Rattle.interval_store_manager.specs.Sound.{Sound, sound, sound-make,
 use Rattle.interval_store_manager.specs.TopLaws.{holders-top, top-start, bounded-fewer, bounded-start}
 use Rattle.interval_store_manager.specs.FreeLaws.{free-less, sizes-one}
 
--- the top's start: the index that get gives
-abbrev pub next : ℕ → List ℕ → ℕ
-next n starts = getD starts (n - 1) 0
-
-pub taken-pop : (c n : ℕ) (ss es : List ℕ) → next n ss ≡ next n es → taken (manager c n) ss es ≡ outcome (given (next n ss)) (manager c (n - 1)) ss es
+pub taken-pop : (c n : ℕ) (ss es : List ℕ) → atTop n ss ≡ atTop n es → taken (manager c n) ss es ≡ outcome (given (atTop n ss)) (manager c (n - 1)) ss es
 unfolding taken
-taken-pop c n ss es e = rw (eq-eqb (next n ss) (next n es) e)
+taken-pop c n ss es e = rw (eq-eqb (atTop n ss) (atTop n es) e)
 
-pub taken-keep : (c n : ℕ) (ss es : List ℕ) → (next n ss ≡ next n es → ⊥) → taken (manager c n) ss es ≡ outcome (given (next n ss)) (manager c n) (set ss (n - 1) (next n ss + 1)) es
+pub taken-keep : (c n : ℕ) (ss es : List ℕ) → (atTop n ss ≡ atTop n es → ⊥) → taken (manager c n) ss es ≡ outcome (given (atTop n ss)) (manager c n) (set ss (n - 1) (atTop n ss + 1)) es
 unfolding taken
-taken-keep c n ss es e = rw (ne-eqb (next n ss) (next n es) e)
+taken-keep c n ss es e = rw (ne-eqb (atTop n ss) (atTop n es) e)
 
 -- What get leaves: the given index is held once less, every other as before, and the rest is a sound stack.
 pub record Took (c n : ℕ) (ss es : List ℕ) (o : Outcome) : Type 0 where
-  pub answer : o .answer ≡ given (next n ss)
+  pub answer : o .answer ≡ given (atTop n ss)
   pub capacity : o .manager .capacity ≡ c
-  pub held : (k : ℕ) → holders n ss es k ≡ holders (o .manager .last_in_use) (o .starts) (o .ends) k + one (eqb k (next n ss))
+  pub held : (k : ℕ) → holders n ss es k ≡ holders (o .manager .last_in_use) (o .starts) (o .ends) k + one (eqb k (atTop n ss))
   pub kept : Sound (o .manager .capacity) (o .manager .last_in_use) (o .starts) (o .ends)
 
 module _ (c n : ℕ) (ss es : List ℕ) (s : Sound c n ss es) (h : 0 < n) where
-  pub next-below : next n ss < c
+  pub next-below : atTop n ss < c
   next-below = omega (arith, s .bounds .ordered (n - 1) (omega arith), s .bounds .below (n - 1) (omega arith))
 
-  pop-held : next n ss ≡ next n es → (k : ℕ) → holders n ss es k ≡ holders (n - 1) ss es k + one (eqb k (next n ss))
+  pop-held : atTop n ss ≡ atTop n es → (k : ℕ) → holders n ss es k ≡ holders (n - 1) ss es k + one (eqb k (atTop n ss))
   pop-held e k =
       holders-top n ss es k h
       ∙ ap (λ (x : ℕ). holders (n - 1) ss es k + x)
-      (ap (λ (x : ℕ). one (inside (next n ss) x k)) (sym e) ∙ inside-single (next n ss) k)
+      (ap (λ (x : ℕ). one (inside (atTop n ss) x k)) (sym e) ∙ inside-single (atTop n ss) k)
 
-  keep-held : (k : ℕ) → holders n ss es k ≡ holders n (set ss (n - 1) (next n ss + 1)) es k + one (eqb k (next n ss))
+  keep-held : (k : ℕ) → holders n ss es k ≡ holders n (set ss (n - 1) (atTop n ss + 1)) es k + one (eqb k (atTop n ss))
   keep-held k =
-      let first = inside-first (next n ss) (next n es) k (s .bounds .ordered (n - 1) (omega arith)) in
-      let new = top-start n ss es (next n ss + 1) k h (s .starts-used) in
+      let first = inside-first (atTop n ss) (atTop n es) k (s .bounds .ordered (n - 1) (omega arith)) in
+      let new = top-start n ss es (atTop n ss + 1) k h (s .starts-used) in
       let old = holders-top n ss es k h in
       omega arith
 
-  popped : next n ss ≡ next n es → Took c n ss es (outcome (given (next n ss)) (manager c (n - 1)) ss es)
+  popped : atTop n ss ≡ atTop n es → Took c n ss es (outcome (given (atTop n ss)) (manager c (n - 1)) ss es)
   popped e =
       record {
         answer = refl;
@@ -68,25 +64,25 @@ module _ (c n : ℕ) (ss es : List ℕ) (s : Sound c n ss es) (h : 0 < n) where
             (λ i l. omega (arith, pop-held e i, s .single i l));
       }
 
-  shortened : (next n ss ≡ next n es → ⊥) → Took c n ss es (outcome (given (next n ss)) (manager c n) (set ss (n - 1) (next n ss + 1)) es)
+  shortened : (atTop n ss ≡ atTop n es → ⊥) → Took c n ss es (outcome (given (atTop n ss)) (manager c n) (set ss (n - 1) (atTop n ss + 1)) es)
   shortened d =
-      let less : next n ss + 1 ≤ next n es = elim (decLt (next n ss) (next n es)) [ yes l ↦ omega arith | no g ↦ absurd (d (omega (arith, s .bounds .ordered (n - 1) (omega arith)))) ] in
+      let less : atTop n ss + 1 ≤ atTop n es = elim (decLt (atTop n ss) (atTop n es)) [ yes l ↦ omega arith | no g ↦ absurd (d (omega (arith, s .bounds .ordered (n - 1) (omega arith)))) ] in
       record {
         answer = refl;
         capacity = refl;
         held = keep-held;
         kept =
-            restacked n (set ss (n - 1) (next n ss + 1)) es s (length-set ss (n - 1) (next n ss + 1)) refl (entries-le-capacity s)
-            (bounded-start (next n ss + 1) h (s .starts-used) less (s .bounds))
+            restacked n (set ss (n - 1) (atTop n ss + 1)) es s (length-set ss (n - 1) (atTop n ss + 1)) refl (entries-le-capacity s)
+            (bounded-start (atTop n ss + 1) h (s .starts-used) less (s .bounds))
             (λ i l. omega (arith, keep-held i, s .single i l));
       }
 
   pub took : Took c n ss es (taken (manager c n) ss es)
   took =
-      elim (decLt (next n ss) (next n es)) [
+      elim (decLt (atTop n ss) (atTop n es)) [
         | yes l ↦ rw (taken-keep c n ss es (λ e. omega arith)) (shortened (λ e. omega arith))
         | no g ↦
-            let e : next n ss ≡ next n es = omega (arith, s .bounds .ordered (n - 1) (omega arith)) in
+            let e : atTop n ss ≡ atTop n es = omega (arith, s .bounds .ordered (n - 1) (omega arith)) in
             rw (taken-pop c n ss es e) (popped e)
       ]
 
@@ -101,16 +97,16 @@ module _ (m : IntervalStoreManager) (ss es : List ℕ) (w : wellFormed m ss es �
   pub get-keeps : wellFormed (after .manager) (after .starts) (after .ends) ≡ true
   get-keeps = sound-make (after .manager) (after .starts) (after .ends) (what .kept)
 
-  pub get-free : (k : ℕ) → k < m .capacity → isFree (after .manager .last_in_use) (after .starts) (after .ends) k ≡ (isFree (m .last_in_use) ss es k && not (eqb k (next (m .last_in_use) ss)))
+  pub get-free : (k : ℕ) → k < m .capacity → isFree (after .manager .last_in_use) (after .starts) (after .ends) k ≡ (isFree (m .last_in_use) ss es k && not (eqb k (atTop (m .last_in_use) ss)))
   get-free k l =
-      free-less (eqb k (next (m .last_in_use) ss)) (m .last_in_use) (after .manager .last_in_use) ss es (after .starts) (after .ends) k
+      free-less (eqb k (atTop (m .last_in_use) ss)) (m .last_in_use) (after .manager .last_in_use) ss es (after .starts) (after .ends) k
       (sound m ss es w .single k l) (what .held k)
 
   -- the given index was free
-  pub get-was-free : isFree (m .last_in_use) ss es (next (m .last_in_use) ss) ≡ true
+  pub get-was-free : isFree (m .last_in_use) ss es (atTop (m .last_in_use) ss) ≡ true
   unfolding isFree
   get-was-free =
-      let i = next (m .last_in_use) ss in
+      let i = atTop (m .last_in_use) ss in
       let t : one (eqb i i) ≡ 1 = ap one (eq-eqb i i refl) in
       lt-ltb 0 (holders (m .last_in_use) ss es i) (omega (arith, what .held i))
 
@@ -119,7 +115,7 @@ module _ (m : IntervalStoreManager) (ss es : List ℕ) (w : wellFormed m ss es �
       let c = m .capacity in
       let n = m .last_in_use in
       let n′ = after .manager .last_in_use in
-      let more = sizes-one c (next n ss) n′ n (after .starts) (after .ends) ss es (next-below c n ss es (sound m ss es w) h) (what .held) in
+      let more = sizes-one c (atTop n ss) n′ n (after .starts) (after .ends) ss es (next-below c n ss es (sound m ss es w) h) (what .held) in
       let before = free-number c n ss es (sound m ss es w .single) in
       let now = free-number c n′ (after .starts) (after .ends) (λ i l. omega (arith, what .held i, sound m ss es w .single i l)) in
       omega arith

@@ -1,12 +1,16 @@
 -- Document 01, 'Interval manager': a stack of free intervals [start, end]. The stack is two lists, of which the first n
 -- entries are in use; entry n - 1 is its top. The list functions here recurse on n, so that what lies at or above n plays
 -- no part.
-use Prim.Native.Nat.{ℕ, zero, suc, _+_}
+use Prim.Native.Nat.{ℕ, zero, suc, _+_, _-_}
 use mathlib.Core.List.{List}
 use mathlib.Core.Bool.{Bool, true, _&&_}
 use lib.ListN.{getD}
 use lib.Dec.{leb, ltb}
 use Rattle.terms.specs.Below.{one, countBelow, everyBelow}
+
+-- the entry at the stack's top: of the starts, the index that get gives
+abbrev pub atTop : ℕ → List ℕ → ℕ
+atTop n entries = getD entries (n - 1) 0
 
 -- index i lies in [start, end]
 unfoldable pub inside : ℕ → ℕ → ℕ → Bool

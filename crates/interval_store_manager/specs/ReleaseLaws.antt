@@ -11,7 +11,7 @@ use lib.Dec.{eqb}
 use borrow.Author.Tests.{eq-eqb, ne-eqb, lt-ltb, le-ltb}
 use Rattle.terms.specs.Below.{one}
 use Rattle.interval_store_manager.specs.declared.IntervalStoreManager.{IntervalStoreManager}
-use Rattle.interval_store_manager.specs.Intervals.{inside, holders, isFree, freeNumber}
+use Rattle.interval_store_manager.specs.Intervals.{atTop, inside, holders, isFree, freeNumber}
 use Rattle.interval_store_manager.specs.WellFormed.{wellFormed}
 use Rattle.interval_store_manager.specs.Answers.{Outcome, outcome, done}
 use Rattle.interval_store_manager.specs.Calls.{manager, pushed, released}
@@ -20,19 +20,18 @@ use Rattle.interval_store_manager.specs.StackLaws.{free-number}
 use Rattle.interval_store_manager.specs.Sound.{Sound, sound, sound-make, entries-le-capacity, restacked}
 use Rattle.interval_store_manager.specs.TopLaws.{holders-top, top-start, top-end, push, bounded-start, bounded-end, bounded-push}
 use Rattle.interval_store_manager.specs.FreeLaws.{not-free-held, free-more, sizes-one, single-more, room}
-use Rattle.interval_store_manager.specs.GetLaws.{next}
 
-pub released-start : (c n : ℕ) (ss es : List ℕ) (i : ℕ) → 0 < n → next n ss ≡ i + 1 → released (manager c n) ss es i ≡ outcome done (manager c n) (set ss (n - 1) i) es
+pub released-start : (c n : ℕ) (ss es : List ℕ) (i : ℕ) → 0 < n → atTop n ss ≡ i + 1 → released (manager c n) ss es i ≡ outcome done (manager c n) (set ss (n - 1) i) es
 unfolding released
-released-start c n ss es i h e = rw (lt-ltb 0 n h, eq-eqb (next n ss) (i + 1) e)
+released-start c n ss es i h e = rw (lt-ltb 0 n h, eq-eqb (atTop n ss) (i + 1) e)
 
-pub released-end : (c n : ℕ) (ss es : List ℕ) (i : ℕ) → 0 < n → (next n ss ≡ i + 1 → ⊥) → next n es + 1 ≡ i → released (manager c n) ss es i ≡ outcome done (manager c n) ss (set es (n - 1) i)
+pub released-end : (c n : ℕ) (ss es : List ℕ) (i : ℕ) → 0 < n → (atTop n ss ≡ i + 1 → ⊥) → atTop n es + 1 ≡ i → released (manager c n) ss es i ≡ outcome done (manager c n) ss (set es (n - 1) i)
 unfolding released
-released-end c n ss es i h d e = rw (lt-ltb 0 n h, ne-eqb (next n ss) (i + 1) d, eq-eqb (next n es + 1) i e)
+released-end c n ss es i h d e = rw (lt-ltb 0 n h, ne-eqb (atTop n ss) (i + 1) d, eq-eqb (atTop n es + 1) i e)
 
-pub released-apart : (c n : ℕ) (ss es : List ℕ) (i : ℕ) → 0 < n → (next n ss ≡ i + 1 → ⊥) → (next n es + 1 ≡ i → ⊥) → released (manager c n) ss es i ≡ pushed done c n ss es i i
+pub released-apart : (c n : ℕ) (ss es : List ℕ) (i : ℕ) → 0 < n → (atTop n ss ≡ i + 1 → ⊥) → (atTop n es + 1 ≡ i → ⊥) → released (manager c n) ss es i ≡ pushed done c n ss es i i
 unfolding released
-released-apart c n ss es i h d e = rw (lt-ltb 0 n h, ne-eqb (next n ss) (i + 1) d, ne-eqb (next n es + 1) i e)
+released-apart c n ss es i h d e = rw (lt-ltb 0 n h, ne-eqb (atTop n ss) (i + 1) d, ne-eqb (atTop n es + 1) i e)
 
 pub released-first : (c n : ℕ) (ss es : List ℕ) (i : ℕ) → n ≡ 0 → released (manager c n) ss es i ≡ pushed done c n ss es i i
 unfolding released
@@ -46,17 +45,17 @@ pub record Gave (c n : ℕ) (ss es : List ℕ) (i : ℕ) (o : Outcome) : Type 0 
   pub kept : Sound (o .manager .capacity) (o .manager .last_in_use) (o .starts) (o .ends)
 
 module _ (c n : ℕ) (ss es : List ℕ) (i : ℕ) (s : Sound c n ss es) (l : i < c) (z : holders n ss es i ≡ 0) where
-  start-held : 0 < n → next n ss ≡ i + 1 → (k : ℕ) → holders n (set ss (n - 1) i) es k ≡ holders n ss es k + one (eqb k i)
+  start-held : 0 < n → atTop n ss ≡ i + 1 → (k : ℕ) → holders n (set ss (n - 1) i) es k ≡ holders n ss es k + one (eqb k i)
   start-held h e k =
-      let first = inside-first i (next n es) k (omega (arith, s .bounds .ordered (n - 1) (omega arith))) in
-      let same : one (inside (next n ss) (next n es) k) ≡ one (inside (i + 1) (next n es) k) = ap (λ (x : ℕ). one (inside x (next n es) k)) e in
+      let first = inside-first i (atTop n es) k (omega (arith, s .bounds .ordered (n - 1) (omega arith))) in
+      let same : one (inside (atTop n ss) (atTop n es) k) ≡ one (inside (i + 1) (atTop n es) k) = ap (λ (x : ℕ). one (inside x (atTop n es) k)) e in
       let new = top-start n ss es i k h (s .starts-used) in
       let old = holders-top n ss es k h in
       omega arith
 
-  end-held : 0 < n → next n es + 1 ≡ i → (k : ℕ) → holders n ss (set es (n - 1) i) k ≡ holders n ss es k + one (eqb k i)
+  end-held : 0 < n → atTop n es + 1 ≡ i → (k : ℕ) → holders n ss (set es (n - 1) i) k ≡ holders n ss es k + one (eqb k i)
   end-held h e k =
-      let last = rw e at (inside-last (next n ss) (next n es) k (s .bounds .ordered (n - 1) (omega arith))) in
+      let last = rw e at (inside-last (atTop n ss) (atTop n es) k (s .bounds .ordered (n - 1) (omega arith))) in
       let new = top-end n ss es i k h (s .ends-used) in
       let old = holders-top n ss es k h in
       omega arith
@@ -69,7 +68,7 @@ module _ (c n : ℕ) (ss es : List ℕ) (i : ℕ) (s : Sound c n ss es) (l : i <
   single-after : (n′ : ℕ) (ss′ es′ : List ℕ) → ((k : ℕ) → holders n′ ss′ es′ k ≡ holders n ss es k + one (eqb k i)) → (k : ℕ) → k < c → holders n′ ss′ es′ k ≤ 1
   single-after n′ ss′ es′ e k m = rw (e k) (single-more (holders n ss es) i k z (s .single k m))
 
-  gave-start : 0 < n → next n ss ≡ i + 1 → Gave c n ss es i (outcome done (manager c n) (set ss (n - 1) i) es)
+  gave-start : 0 < n → atTop n ss ≡ i + 1 → Gave c n ss es i (outcome done (manager c n) (set ss (n - 1) i) es)
   gave-start h e =
       record {
         answer = refl;
@@ -81,7 +80,7 @@ module _ (c n : ℕ) (ss es : List ℕ) (i : ℕ) (s : Sound c n ss es) (l : i <
             (single-after n (set ss (n - 1) i) es (start-held h e));
       }
 
-  gave-end : 0 < n → next n es + 1 ≡ i → Gave c n ss es i (outcome done (manager c n) ss (set es (n - 1) i))
+  gave-end : 0 < n → atTop n es + 1 ≡ i → Gave c n ss es i (outcome done (manager c n) ss (set es (n - 1) i))
   gave-end h e =
       record {
         answer = refl;
@@ -112,10 +111,10 @@ module _ (c n : ℕ) (ss es : List ℕ) (i : ℕ) (s : Sound c n ss es) (l : i <
       elim (decLt 0 n) [
         | no g ↦ rw (released-first c n ss es i (omega arith)) gave-apart
         | yes h ↦
-            elim (ℕ-discrete (next n ss) (i + 1)) [
+            elim (ℕ-discrete (atTop n ss) (i + 1)) [
               | yes e ↦ rw (released-start c n ss es i h e) (gave-start h e)
               | no d ↦
-                  elim (ℕ-discrete (next n es + 1) i) [
+                  elim (ℕ-discrete (atTop n es + 1) i) [
                     | yes e ↦ rw (released-end c n ss es i h d e) (gave-end h e)
                     | no f ↦ rw (released-apart c n ss es i h d f) gave-apart
                   ]

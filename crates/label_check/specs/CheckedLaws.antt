@@ -5,16 +5,14 @@ use mathlib.Core.List.{List}
 use mathlib.Core.Bool.{Bool, true, false}
 use mathlib.Core.Path.{_≡_, sym, _∙_, ap}
 use lib.ListN.{length}
-use lib.Dec.{leb}
-use borrow.Author.Tests.{le-leb, leb-true}
-use Rattle.terms.specs.Below.{both, and-make, fails, everyBelow}
+use Rattle.terms.specs.Below.{fails, everyBelow}
 use Rattle.interval_store_manager.specs.WellFormed.{wellFormed}
 use Rattle.interval_store_manager.specs.Intervals.{freeNumber}
 use Rattle.interval_store_manager.specs.MarkLaws.{marks-count}
 use Rattle.interval_store_manager.specs.Sound as manager
-use Rattle.labels.specs.Labels.{Labels, labelCountAt, labelsWell}
-use Rattle.labels.specs.Sound.{Sound, sound}
-use Rattle.label_check.specs.Checks.{tablesLent, labelPasses, slotFits, Summed, MarksOf, labels-pass, slots-fit, passed}
+use Rattle.labels.specs.Labels.{Labels, labelCountAt, tablesLent, labelsWell}
+use Rattle.labels.specs.Sound.{Sound, sound, tables-lent, tables-lent-make, lent-of}
+use Rattle.label_check.specs.Checks.{labelPasses, slotFits, Summed, MarksOf, labels-pass, slots-fit, passed}
 use Rattle.label_check.specs.CheckLaws.{LabelsLent, SlotsLent}
 
 -- a test that fails cannot hold
@@ -35,16 +33,8 @@ module _ (classes : List ℕ) (c : ℕ) (l : Labels) where
   abbrev lent : Bool
   lent = tablesLent c (l .labels) (l .labelAttributes) (l .labelTable .counts) (l .attributes) (l .attributeTable .counts)
 
-  sound-lent : Sound classes c l → lent ≡ true
-  unfolding tablesLent
-  sound-lent w =
-      and-make _ _ (le-leb c (length (l .labels)) (w .codes-lent))
-      (and-make _ _ (le-leb c (length (l .labelAttributes)) (w .slots-lent))
-      (and-make _ _ (le-leb c (length (l .labelTable .counts)) (w .label-table .lent))
-      (and-make _ _ (le-leb c (length (l .attributes)) (w .classes-lent)) (le-leb c (length (l .attributeTable .counts)) (w .slot-table .lent)))))
-
   pub not-lent : lent ≡ false → false ≡ labelsWell classes c l
-  not-lent e = refuted (λ w. clash (sound-lent w) e)
+  not-lent e = refuted (λ w. clash (tables-lent-make c l (lent-of classes c l w)) e)
 
   abbrev labelsManaged : Bool
   labelsManaged = wellFormed (l .labelTable .manager) (l .labelTable .starts) (l .labelTable .ends)
@@ -63,31 +53,23 @@ module _ (classes : List ℕ) (c : ℕ) (l : Labels) where
   most e q = omega (arith, q, manager.sound (l .labelTable .manager) (l .labelTable .starts) (l .labelTable .ends) e .most)
 
   pub labels-lent : (marks : List ℕ) → labelsManaged ≡ true → l .labelTable .manager .capacity ≡ c → lent ≡ true → length marks ≡ 1024 → LabelsLent c (l .labels) (l .labelAttributes) (l .labelTable .counts) (l .attributes) marks
-  unfolding tablesLent
   labels-lent marks e q t g =
-      let t1 = both (leb c (length (l .labels))) _ t in
-      let t2 = both (leb c (length (l .labelAttributes))) _ (t1 .1) in
-      let t3 = both (leb c (length (l .labelTable .counts))) _ (t2 .1) in
-      let t4 = both (leb c (length (l .attributes))) (leb c (length (l .attributeTable .counts))) (t3 .1) in
+      let lent = tables-lent c l t in
       record {
         most = most e q;
-        codes-lent = leb-true c (length (l .labels)) (t1 .0);
-        slots-lent = leb-true c (length (l .labelAttributes)) (t2 .0);
-        counts-lent = leb-true c (length (l .labelTable .counts)) (t3 .0);
-        classes-lent = leb-true c (length (l .attributes)) (t4 .0);
+        codes-lent = lent .codes-lent;
+        slots-lent = lent .slots-lent;
+        counts-lent = lent .counts-lent;
+        classes-lent = lent .classes-lent;
         marks-lent = omega (arith, most e q, g);
       }
 
   pub slots-lent : (marks sums : List ℕ) (free : ℕ) → MarksOf (l .attributeTable) marks → free ≡ freeNumber (l .attributeTable .manager .capacity) (l .attributeTable .manager .last_in_use) (l .attributeTable .starts) (l .attributeTable .ends) → l .attributeTable .manager .capacity ≡ c → labelsManaged ≡ true → l .labelTable .manager .capacity ≡ c → lent ≡ true → length marks ≡ 1024 → length sums ≡ 1024 → SlotsLent c free (l .attributes) (l .attributeTable .counts) marks sums
-  unfolding tablesLent
   slots-lent marks sums free m number same e q t g h =
-      let t1 = both (leb c (length (l .labels))) _ t in
-      let t2 = both (leb c (length (l .labelAttributes))) _ (t1 .1) in
-      let t3 = both (leb c (length (l .labelTable .counts))) _ (t2 .1) in
-      let t4 = both (leb c (length (l .attributes))) (leb c (length (l .attributeTable .counts))) (t3 .1) in
+      let lent = tables-lent c l t in
       record {
-        classes-lent = leb-true c (length (l .attributes)) (t4 .0);
-        counts-lent = leb-true c (length (l .attributeTable .counts)) (t4 .1);
+        classes-lent = lent .classes-lent;
+        counts-lent = lent .slot-counts-lent;
         marks-lent = omega (arith, most e q, g);
         sums-lent = omega (arith, most e q, h);
         free-is =

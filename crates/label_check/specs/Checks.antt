@@ -7,17 +7,42 @@ use mathlib.Core.Bool.{Bool, true, false, cond, _&&_}
 use mathlib.Core.Path.{_≡_, refl, sym, _∙_, ap}
 use lib.ListN.{length, getD}
 use lib.Dec.{leb, ltb, eqb}
-use borrow.Author.Tests.{eq-eqb, eqb-true, leb-true, lt-ltb, ltb-true}
+use borrow.Author.Tests.{eq-eqb, eqb-true, le-leb, leb-true, lt-ltb, ltb-true}
 use Rattle.terms.specs.Below.{one, both, and-make, everyBelow, every-at, every-make}
 use Rattle.interval_store_manager.specs.WellFormed.{wellFormed}
 use Rattle.interval_store_manager.specs.Marks.{Marks}
+use Rattle.labels.specs.Classes.{classOf}
 use Rattle.labels.specs.Counted.{Counted, countAt, free}
-use Rattle.labels.specs.Labels.{Labels, labelCountAt, slotCountAt, slotSum, labelStands, differ, labelsWell}
-use Rattle.labels.specs.Sound.{Sound, label-stands, label-stands-make, asked, asked-make, distinct-from, distinct-make, sound-make}
+use Rattle.labels.specs.Labels.{Labels, codeAt, slotAt, classAt, labelCountAt, slotCountAt, slotSum, differ, tablesLent, classesDistinct, labelsWell}
+use Rattle.labels.specs.Sound.{Stands, Sound, asked, asked-make, distinct-from, distinct-make, tables-lent, sound-make}
 
 -- index i is marked exactly where its count is 0
 abbrev pub markFits : List ℕ → List ℕ → ℕ → Bool
 markFits marks counts i = eqb (getD marks i 0) (one (eqb (getD counts i 0) 0))
+
+-- of a live label: its code is at most 23 and its slot holds the code's class
+unfoldable pub labelStands : List ℕ → ℕ → List ℕ → List ℕ → List ℕ → ℕ → Bool
+labelStands classes capacity labels slots attributes i =
+    leb (getD labels i 0) 23
+    && (ltb (getD slots i 0) capacity && eqb (getD attributes (getD slots i 0) 0) (classOf classes (getD labels i 0)))
+
+label-stands : (classes : List ℕ) (c : ℕ) (l : Labels) (i : ℕ) → labelStands classes c (l .labels) (l .labelAttributes) (l .attributes) i ≡ true → Stands classes c l i
+unfolding labelStands
+label-stands classes c l i e =
+    let p = both (leb (codeAt l i) 23) _ e in
+    let q = both (ltb (slotAt l i) c) (eqb (classAt l (slotAt l i)) (classOf classes (codeAt l i))) (p .1) in
+    record {
+      code-most = leb-true (codeAt l i) 23 (p .0);
+      slot-below = ltb-true (slotAt l i) c (q .0);
+      slot-class = eqb-true (classAt l (slotAt l i)) (classOf classes (codeAt l i)) (q .1);
+    }
+
+label-stands-make : (classes : List ℕ) (c : ℕ) (l : Labels) (i : ℕ) → Stands classes c l i → labelStands classes c (l .labels) (l .labelAttributes) (l .attributes) i ≡ true
+unfolding labelStands
+label-stands-make classes c l i s =
+    and-make _ _ (le-leb (codeAt l i) 23 (s .code-most))
+    (and-make _ _ (lt-ltb (slotAt l i) c (s .slot-below))
+    (eq-eqb (classAt l (slotAt l i)) (classOf classes (codeAt l i)) (s .slot-class)))
 
 unfoldable pub labelPasses : List ℕ → ℕ → List ℕ → List ℕ → List ℕ → List ℕ → List ℕ → ℕ → Bool
 labelPasses classes capacity labels slots counts attributes marks i =
@@ -30,13 +55,6 @@ slotPasses counts marks sums s = eqb (getD counts s 0) (getD sums s 0) && markFi
 -- and no live slot before it holds its class
 unfoldable pub slotFits : List ℕ → List ℕ → List ℕ → List ℕ → ℕ → Bool
 slotFits attributes counts marks sums s = slotPasses counts marks sums s && everyBelow s (λ t. differ attributes counts s t)
-
--- the lent slices have an entry for each index
-unfoldable pub tablesLent : ℕ → List ℕ → List ℕ → List ℕ → List ℕ → List ℕ → Bool
-tablesLent capacity labels slots counts attributes slotCounts =
-    leb capacity (length labels)
-    && (leb capacity (length slots)
-    && (leb capacity (length counts) && (leb capacity (length attributes) && leb capacity (length slotCounts))))
 
 -- the sums of the slots' counts below n
 abbrev pub Summed : ℕ → List ℕ → List ℕ → List ℕ → Type 0
@@ -83,7 +101,7 @@ module _ (classes : List ℕ) (c : ℕ) (l : Labels) (slotMarks sums : List ℕ)
   fits s = slotFits (l .attributes) (l .attributeTable .counts) slotMarks sums s
 
   pub slots-fit : c ≤ 1024 → Summed c (l .labelAttributes) (l .labelTable .counts) sums → Sound classes c l → everyBelow c fits ≡ true
-  unfolding slotFits slotPasses
+  unfolding slotFits slotPasses classesDistinct
   slots-fit h e w =
       every-make c fits
       (λ s m.
@@ -103,29 +121,26 @@ module _ (classes : List ℕ) (c : ℕ) (l : Labels) (slotMarks sums : List ℕ)
 -- and one that passes is well-formed
 module _ (classes : List ℕ) (c : ℕ) (l : Labels) (labelMarks slotMarks sums : List ℕ) (lm : MarksOf (l .labelTable) labelMarks) (sm : MarksOf (l .attributeTable) slotMarks) (lw : wellFormed (l .labelTable .manager) (l .labelTable .starts) (l .labelTable .ends) ≡ true) (sw : wellFormed (l .attributeTable .manager) (l .attributeTable .starts) (l .attributeTable .ends) ≡ true) (lc : l .labelTable .manager .capacity ≡ c) (sc : l .attributeTable .manager .capacity ≡ c) (most : (i : ℕ) → labelCountAt l i ≤ 65535) (h : c ≤ 1024) where
   pub passed : tablesLent c (l .labels) (l .labelAttributes) (l .labelTable .counts) (l .attributes) (l .attributeTable .counts) ≡ true → everyBelow c (passes classes c l labelMarks lm) ≡ true → Summed c (l .labelAttributes) (l .labelTable .counts) sums → everyBelow c (fits classes c l slotMarks sums sm) ≡ true → labelsWell classes c l ≡ true
-  unfolding tablesLent
+  unfolding classesDistinct
   passed t p e f =
-      let t1 = both (leb c (length (l .labels))) _ t in
-      let t2 = both (leb c (length (l .labelAttributes))) _ (t1 .1) in
-      let t3 = both (leb c (length (l .labelTable .counts))) _ (t2 .1) in
-      let t4 = both (leb c (length (l .attributes))) _ (t3 .1) in
+      let lent = tables-lent c l t in
       sound-make classes c l
       (record {
         label-table = record {
           managed = lw;
           whole = lc;
-          lent = leb-true c (length (l .labelTable .counts)) (t3 .0);
+          lent = lent .counts-lent;
           free-is = λ i m. mark-free (l .labelTable) labelMarks i lm (label-parts classes c l labelMarks lm i (every-at c (passes classes c l labelMarks lm) p i m) .0);
         };
         slot-table = record {
           managed = sw;
           whole = sc;
-          lent = leb-true c (length (l .attributeTable .counts)) (t4 .1);
+          lent = lent .slot-counts-lent;
           free-is = λ s m. mark-free (l .attributeTable) slotMarks s sm (slot-parts classes c l slotMarks sums sm s (every-at c (fits classes c l slotMarks sums sm) f s m) .1 .0);
         };
-        codes-lent = leb-true c (length (l .labels)) (t1 .0);
-        slots-lent = leb-true c (length (l .labelAttributes)) (t2 .0);
-        classes-lent = leb-true c (length (l .attributes)) (t4 .0);
+        codes-lent = lent .codes-lent;
+        slots-lent = lent .slots-lent;
+        classes-lent = lent .classes-lent;
         count-most = λ i m. most i;
         stands = λ i m u.
             label-stands classes c l i

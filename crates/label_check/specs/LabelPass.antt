@@ -9,8 +9,7 @@ use lib.Dec.{leb, ltb, eqb}
 use borrow.Author.Tests.{ne-eqb, leb-true, ltb-true}
 use Rattle.terms.specs.Below.{one, both, everyBelow, every-at, every-and}
 use Rattle.labels.specs.Classes.{classOf}
-use Rattle.labels.specs.Labels.{labelStands}
-use Rattle.label_check.specs.Checks.{labelPasses, Summed}
+use Rattle.label_check.specs.Checks.{labelStands, labelPasses, Summed}
 use Rattle.label_check.specs.CheckLaws.{LabelsLent, LabelsSwept}
 use Rattle.label_check.specs.SlotPass.{live-is}
 

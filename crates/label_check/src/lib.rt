@@ -1,9 +1,8 @@
 // Well-formedness of the label half in one linear pass. The managers mark their free indices; each label adds its count to
 // the sum of its slot; each slot's count is held against its sum, and the class of each live slot is seen once.
 ghost use mathlib.Core.Path.{_≡_};
-ghost use Rattle.labels.specs.Labels.{labelsWell, labelsOk};
+ghost use Rattle.labels.specs.Labels.{tablesLent, labelsWell, labelsOk};
 ghost use Rattle.labels.specs.Forms.{entered};
-ghost use Rattle.label_check.specs.Checks.{tablesLent};
 
 mod label_pass;
 mod slot_pass;

@@ -3,14 +3,13 @@
 use Prim.Native.Nat.{ℕ, _+_, _-_}
 use mathlib.Core.List.{List}
 use mathlib.Core.Bool.{Bool, cond, _&&_, Bool·beq}
-use lib.ListN.{length, getD, set}
+use lib.ListN.{getD, set}
 use lib.Dec.{leb, ltb, eqb}
 use Rattle.terms.specs.Below.{everyBelow, countBelow}
 use Rattle.interval_store_manager.specs.declared.IntervalStoreManager.{IntervalStoreManager}
-use Rattle.interval_store_manager.specs.Intervals.{isFree}
+use Rattle.interval_store_manager.specs.Intervals.{atTop, isFree}
 use Rattle.interval_store_manager.specs.WellFormed.{wellFormed}
 use Rattle.interval_store_manager.specs.Calls.{taken, released}
-use Rattle.interval_store_manager.specs.GetLaws.{next}
 
 pub record Counted : Type 0 where
   pub manager : IntervalStoreManager
@@ -29,18 +28,23 @@ free t i = isFree (t .manager .last_in_use) (t .starts) (t .ends) i
 
 -- the index that the manager gives next
 abbrev pub nextIndex : Counted → ℕ
-nextIndex t = next (t .manager .last_in_use) (t .starts)
+nextIndex t = atTop (t .manager .last_in_use) (t .starts)
 
 -- how many indices are live
 unfoldable pub liveNumber : ℕ → Counted → ℕ
 liveNumber capacity t = countBelow capacity (λ i. ltb 0 (countAt t i))
 
--- the manager well-formed with the capacity, a count for each index, and free indices are 'those with count 0'
-unfoldable pub countedWell : ℕ → Counted → Bool
-countedWell capacity t =
-    wellFormed (t .manager) (t .starts) (t .ends)
-    && (eqb (t .manager .capacity) capacity
-    && (leb capacity (length (t .counts)) && everyBelow capacity (λ i. Bool·beq (free t i) (eqb (countAt t i) 0))))
+-- 'Each manager is well-formed', with this capacity
+unfoldable pub managed : ℕ → Counted → Bool
+managed capacity t = wellFormed (t .manager) (t .starts) (t .ends) && eqb (t .manager .capacity) capacity
+
+-- the free indices 'are those with count 0'
+unfoldable pub freeUncounted : ℕ → Counted → Bool
+freeUncounted capacity t = everyBelow capacity (λ i. Bool·beq (free t i) (eqb (countAt t i) 0))
+
+-- 'Counts .. are at most 65,535': of a `u16` slice by type
+unfoldable pub countsFit : ℕ → List ℕ → Bool
+countsFit capacity counts = everyBelow capacity (λ i. leb (getD counts i 0) 65535)
 
 -- the manager's get, and count 1 for the index that it gives
 unfoldable pub indexTaken : Counted → Counted

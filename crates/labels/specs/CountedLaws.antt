@@ -6,8 +6,8 @@ use native.Mathlib.Decide.{decLt, ℕ-discrete}
 use mathlib.Core.List.{List}
 use mathlib.Core.Bool.{Bool, true, false, not, _&&_, _||_, Bool·beq, and-true, and-false, or-true, or-false}
 use mathlib.Core.Path.{_≡_, refl, sym, _∙_, ap}
-use lib.ListN.{length, set, length-set}
-use lib.Dec.{eqb}
+use lib.ListN.{length, getD, set, length-set}
+use lib.Dec.{leb, eqb}
 use borrow.Author.Tests.{eq-eqb, ne-eqb, eqb-true, le-leb, leb-true}
 use Rattle.terms.specs.Below.{both, and-make, every-at, every-make}
 use Rattle.terms.specs.Entries.{stored}
@@ -16,10 +16,11 @@ use Rattle.interval_store_manager.specs.WellFormed.{wellFormed}
 use Rattle.interval_store_manager.specs.Sound.{sound}
 use Rattle.interval_store_manager.specs.Answers.{Outcome, outcome, given, done}
 use Rattle.interval_store_manager.specs.Calls.{taken, released}
-use Rattle.interval_store_manager.specs.GetLaws.{next, next-below, get-keeps, get-free, get-was-free, took}
+use Rattle.interval_store_manager.specs.Intervals.{atTop}
+use Rattle.interval_store_manager.specs.GetLaws.{next-below, get-keeps, get-free, get-was-free, took}
 use Rattle.interval_store_manager.specs.ReleaseLaws.{gave, release-keeps, release-free}
 use Rattle.interval_store_manager.specs.FreeLaws.{not-free-held, empty-stack}
-use Rattle.labels.specs.Counted.{Counted, counted, countAt, free, nextIndex, countedWell, indexTaken, raised, lowered}
+use Rattle.labels.specs.Counted.{Counted, counted, countAt, free, nextIndex, managed, freeUncounted, countsFit, indexTaken, raised, lowered}
 
 pub beq-same : (a b : Bool) → Bool·beq a b ≡ true → a ≡ b
 beq-same true true e = refl
@@ -38,29 +39,35 @@ pub record WellCounted (capacity : ℕ) (t : Counted) : Type 0 where
   pub lent : capacity ≤ length (t .counts)
   pub free-is : (i : ℕ) → i < capacity → free t i ≡ eqb (countAt t i) 0
 
-pub well-counted : (c : ℕ) (t : Counted) → countedWell c t ≡ true → WellCounted c t
-unfolding countedWell
-well-counted c t e =
+pub well-counted : (c : ℕ) (t : Counted) → managed c t ≡ true → c ≤ length (t .counts) → freeUncounted c t ≡ true → WellCounted c t
+unfolding managed freeUncounted
+well-counted c t e l f =
     let p = both _ _ e in
-    let q = both _ _ (p .1) in
-    let r = both _ _ (q .1) in
     record {
       managed = p .0;
-      whole = eqb-true (t .manager .capacity) c (q .0);
-      lent = leb-true c (length (t .counts)) (r .0);
-      free-is = λ i l.
-          beq-same (free t i) (eqb (countAt t i) 0)
-          (every-at c (λ k. Bool·beq (free t k) (eqb (countAt t k) 0)) (r .1) i l);
+      whole = eqb-true (t .manager .capacity) c (p .1);
+      lent = l;
+      free-is = λ i m.
+          beq-same (free t i) (eqb (countAt t i) 0) (every-at c (λ k. Bool·beq (free t k) (eqb (countAt t k) 0)) f i m);
     }
 
-pub well-counted-make : (c : ℕ) (t : Counted) → WellCounted c t → countedWell c t ≡ true
-unfolding countedWell
-well-counted-make c t w =
-    and-make _ _ (w .managed)
-    (and-make _ _ (eq-eqb (t .manager .capacity) c (w .whole))
-    (and-make _ _ (le-leb c (length (t .counts)) (w .lent))
-    (every-make c (λ k. Bool·beq (free t k) (eqb (countAt t k) 0))
-    (λ i l. same-beq (free t i) (eqb (countAt t i) 0) (w .free-is i l)))))
+pub managed-make : (c : ℕ) (t : Counted) → WellCounted c t → managed c t ≡ true
+unfolding managed
+managed-make c t w = and-make _ _ (w .managed) (eq-eqb (t .manager .capacity) c (w .whole))
+
+pub free-make : (c : ℕ) (t : Counted) → WellCounted c t → freeUncounted c t ≡ true
+unfolding freeUncounted
+free-make c t w =
+    every-make c (λ k. Bool·beq (free t k) (eqb (countAt t k) 0))
+    (λ i l. same-beq (free t i) (eqb (countAt t i) 0) (w .free-is i l))
+
+pub counts-fit : (c : ℕ) (counts : List ℕ) → countsFit c counts ≡ true → (i : ℕ) → i < c → getD counts i 0 ≤ 65535
+unfolding countsFit
+counts-fit c counts e i m = leb-true (getD counts i 0) 65535 (every-at c (λ k. leb (getD counts k 0) 65535) e i m)
+
+pub counts-fit-make : (c : ℕ) (counts : List ℕ) → ((i : ℕ) → i < c → getD counts i 0 ≤ 65535) → countsFit c counts ≡ true
+unfolding countsFit
+counts-fit-make c counts f = every-make c (λ k. leb (getD counts k 0) 65535) (λ i m. le-leb (getD counts i 0) 65535 (f i m))
 
 module _ (c : ℕ) (t : Counted) (w : WellCounted c t) where
   abbrev m : IntervalStoreManager
@@ -191,7 +198,7 @@ lowered-kept t i d = rw (ne-eqb (countAt t i) 1 d)
 given-next : (t : Counted) → taken (t .manager) (t .starts) (t .ends) .answer ≡ given (nextIndex t)
 unfolding taken
 given-next t =
-    let end = next (t .manager .last_in_use) (t .ends) in
+    let end = atTop (t .manager .last_in_use) (t .ends) in
     elim (ℕ-discrete (nextIndex t) end) [ yes e ↦ rw (eq-eqb (nextIndex t) end e) | no d ↦ rw (ne-eqb (nextIndex t) end d) ]
 
 pub index-given : (t : Counted) (i : ℕ) (r : IntervalStoreManager) (ss es : List ℕ) → outcome (given i) r ss es ≡ taken (t .manager) (t .starts) (t .ends) → i ≡ nextIndex t

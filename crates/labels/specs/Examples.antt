@@ -10,8 +10,8 @@ use Rattle.interval_store_manager.specs.Intervals.{inside, holders, isFree, inB
 use Rattle.interval_store_manager.specs.WellFormed.{capacityAllowed, lentEnough, wellFormed}
 use Rattle.interval_store_manager.specs.Calls.{manager, taken, released}
 use Rattle.labels.specs.Classes.{reasonClasses}
-use Rattle.labels.specs.Counted.{counted, countedWell, indexTaken, raised, lowered}
-use Rattle.labels.specs.Labels.{Labels, LabelTaken, holdsClass, classSlot, slotTaken, labelTaken, labelLowered, slotSum, labelStands, differ, labelsWell}
+use Rattle.labels.specs.Counted.{counted, managed, freeUncounted, countsFit, indexTaken, raised, lowered}
+use Rattle.labels.specs.Labels.{Labels, LabelTaken, holdsClass, classSlot, slotTaken, labelTaken, labelLowered, slotSum, differ, tablesLent, codesAllowed, slotsHoldClasses, classesDistinct, slotsSummed, labelsWell}
 use Rattle.labels.specs.Opening.{labelsOpened}
 use Rattle.labels.specs.AnswerLaws.{codeAnswer, classAnswer}
 use Rattle.labels.specs.Decisions.{inUse}
@@ -48,12 +48,12 @@ unfolding some fresh add sharing labelsOpened labelTaken slotTaken classSlot hol
 shared-slot = (refl, refl)
 
 shared-well : labelsWell reasonClasses 2 sharing ≡ true
-unfolding some fresh add sharing labelsOpened labelTaken slotTaken classSlot holdsClass firstBelow raised indexTaken taken reasonClasses labelsWell countedWell wellFormed capacityAllowed lentEnough inBounds noneShared holders inside isFree everyBelow sumBelow slotSum labelStands differ
+unfolding some fresh add sharing labelsOpened labelTaken slotTaken classSlot holdsClass firstBelow raised indexTaken taken reasonClasses labelsWell managed freeUncounted countsFit wellFormed capacityAllowed lentEnough inBounds noneShared holders inside isFree everyBelow sumBelow slotSum tablesLent codesAllowed slotsHoldClasses classesDistinct slotsSummed differ
 shared-well = refl
 
 -- a slot's count that is not the sum of its labels' counts
 uncounted : labelsWell reasonClasses 2 (record { labels = sharing .labels; labelAttributes = sharing .labelAttributes; labelTable = sharing .labelTable; attributes = sharing .attributes; attributeTable = raised (sharing .attributeTable) 0 }) ≡ false
-unfolding some fresh add sharing labelsOpened labelTaken slotTaken classSlot holdsClass firstBelow raised indexTaken taken reasonClasses labelsWell countedWell wellFormed capacityAllowed lentEnough inBounds noneShared holders inside isFree everyBelow sumBelow slotSum labelStands differ
+unfolding some fresh add sharing labelsOpened labelTaken slotTaken classSlot holdsClass firstBelow raised indexTaken taken reasonClasses labelsWell managed freeUncounted countsFit wellFormed capacityAllowed lentEnough inBounds noneShared holders inside isFree everyBelow sumBelow slotSum tablesLent codesAllowed slotsHoldClasses classesDistinct slotsSummed differ
 uncounted = refl
 
 moved-slots : (moved .labelAttributes ≡ 0 ∷ 1 ∷ []) × (moved .attributes ≡ 1 ∷ 0 ∷ [])

@@ -7,7 +7,7 @@ use lib.Dec.{leb, ltb, eqb}
 use Rattle.terms.specs.Below.{everyBelow, sumBelow}
 use Rattle.terms.specs.Search.{firstBelow}
 use Rattle.labels.specs.Classes.{classOf}
-use Rattle.labels.specs.Counted.{Counted, countAt, nextIndex, countedWell, indexTaken, raised, lowered}
+use Rattle.labels.specs.Counted.{Counted, countAt, nextIndex, managed, freeUncounted, countsFit, indexTaken, raised, lowered}
 
 -- the codes and slots of the labels, with the labels' counts; the classes of the slots, with the slots' counts
 pub record Labels : Type 0 where
@@ -102,32 +102,53 @@ labelLowered l i = withTables l (lowered (l .labelTable) i) (lowered (l .attribu
 unfoldable pub slotSum : ℕ → List ℕ → List ℕ → ℕ → ℕ
 slotSum capacity slots counts s = sumBelow capacity (λ i. cond (eqb (getD slots i 0) s) (getD counts i 0) 0)
 
--- of a live label: its code is at most 23 and its slot holds the code's class
-unfoldable pub labelStands : List ℕ → ℕ → List ℕ → List ℕ → List ℕ → ℕ → Bool
-labelStands classes capacity labels slots attributes i =
-    leb (getD labels i 0) 23
-    && (ltb (getD slots i 0) capacity && eqb (getD attributes (getD slots i 0) 0) (classOf classes (getD labels i 0)))
-
 -- two live slots, of which one is above the other, hold different classes
 unfoldable pub differ : List ℕ → List ℕ → ℕ → ℕ → Bool
 differ attributes counts s t =
     not (ltb 0 (getD counts s 0) && (ltb 0 (getD counts t 0) && eqb (getD attributes s 0) (getD attributes t 0)))
 
--- 'Each manager is well-formed, .. the other two's [capacity being] the capacity', 'free label indices and slots are those
--- with count 0' (countedWell); a lent slice has an entry for each index; 'Counts of points and labels are at most 65,535.
--- Live label codes are at most 23, a label's attribute slot holds its class, live slots hold distinct classes, a slot's
--- count is the sum of its labels' counts'
+-- ---- well-formedness, a name for each clause
+
+-- every lent table has an entry for each index
+unfoldable pub tablesLent : ℕ → List ℕ → List ℕ → List ℕ → List ℕ → List ℕ → Bool
+tablesLent capacity labels slots counts attributes slotCounts =
+    leb capacity (length labels)
+    && (leb capacity (length slots)
+    && (leb capacity (length counts) && (leb capacity (length attributes) && leb capacity (length slotCounts))))
+
+-- 'Live label codes are at most 23'
+unfoldable pub codesAllowed : ℕ → Labels → Bool
+codesAllowed capacity l = everyBelow capacity (λ i. cond (ltb 0 (labelCountAt l i)) (leb (codeAt l i) 23) true)
+
+-- 'a label's attribute slot holds its class': a live label's
+unfoldable pub slotsHoldClasses : List ℕ → ℕ → Labels → Bool
+slotsHoldClasses classes capacity l =
+    everyBelow capacity
+    (λ i.
+    cond (ltb 0 (labelCountAt l i)) (ltb (slotAt l i) capacity && eqb (classAt l (slotAt l i)) (classOf classes (codeAt l i))) true)
+
+-- 'live slots hold distinct classes'
+unfoldable pub classesDistinct : ℕ → List ℕ → List ℕ → Bool
+classesDistinct capacity attributes counts = everyBelow capacity (λ s. everyBelow s (λ t. differ attributes counts s t))
+
+-- 'a slot's count is the sum of its labels' counts'
+unfoldable pub slotsSummed : ℕ → Labels → Bool
+slotsSummed capacity l =
+    everyBelow capacity (λ s. eqb (slotCountAt l s) (slotSum capacity (l .labelAttributes) (l .labelTable .counts) s))
+
+-- 'Each manager is well-formed, .. the other two's [capacity being] the capacity'; 'Counts of points and labels are at most
+-- 65,535'; the four clauses above; 'and free label indices and slots are those with count 0'
 unfoldable pub labelsWell : List ℕ → ℕ → Labels → Bool
 labelsWell classes capacity l =
-    countedWell capacity (l .labelTable)
-    && (countedWell capacity (l .attributeTable)
-    && (leb capacity (length (l .labels))
-    && (leb capacity (length (l .labelAttributes))
-    && (leb capacity (length (l .attributes))
-    && (everyBelow capacity (λ i. leb (labelCountAt l i) 65535)
-    && (everyBelow capacity (λ i. cond (ltb 0 (labelCountAt l i)) (labelStands classes capacity (l .labels) (l .labelAttributes) (l .attributes) i) true)
-    && (everyBelow capacity (λ s. everyBelow s (λ t. differ (l .attributes) (l .attributeTable .counts) s t))
-    && everyBelow capacity (λ s. eqb (slotCountAt l s) (slotSum capacity (l .labelAttributes) (l .labelTable .counts) s)))))))))
+    tablesLent capacity (l .labels) (l .labelAttributes) (l .labelTable .counts) (l .attributes) (l .attributeTable .counts)
+    && (managed capacity (l .labelTable)
+    && (managed capacity (l .attributeTable)
+    && (countsFit capacity (l .labelTable .counts)
+    && (codesAllowed capacity l
+    && (slotsHoldClasses classes capacity l
+    && (classesDistinct capacity (l .attributes) (l .attributeTable .counts)
+    && (slotsSummed capacity l
+    && (freeUncounted capacity (l .labelTable) && freeUncounted capacity (l .attributeTable)))))))))
 
 -- 'with labels off those two, the labels and the slots are not looked at'
 abbrev pub labelsOk : Bool → List ℕ → ℕ → Labels → Bool

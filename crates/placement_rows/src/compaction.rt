@@ -1,6 +1,6 @@
 // Compaction. The points are ordered by place through a local table from place to index, which has the size that the free start asks
 // for: no sorting, and no more stack than needed.
-use super::EMPTY;
+use super::NO_INDEX;
 use super::index_table::index_places;
 use super::one_pass::Shape;
 use super::one_pass::scan_places;
@@ -36,7 +36,7 @@ fn compact_256(
     requires { ⌜ Compactable (shape .dimensions) (shape .base) (now location) «start_free_region» (length (now store)) × («start_free_region» / shape .base ≤ 256) ⌝ }
     ensures { λ r. ⌜ layout (now (store .exit)) (now (location .exit)) r ≡ compacted 0 (shape .dimensions) (shape .base) (shape .rotation) (now (store .entry)) (now (location .entry)) «start_free_region» ⌝ }
 {
-    let mut index_at = [EMPTY; 256];
+    let mut index_at = [NO_INDEX; 256];
     compact_with(&mut index_at, store, location, shape, start_free_region)
 }
 
@@ -49,7 +49,7 @@ fn compact_1024(
     requires { ⌜ Compactable (shape .dimensions) (shape .base) (now location) «start_free_region» (length (now store)) × («start_free_region» / shape .base ≤ 1024) ⌝ }
     ensures { λ r. ⌜ layout (now (store .exit)) (now (location .exit)) r ≡ compacted 0 (shape .dimensions) (shape .base) (shape .rotation) (now (store .entry)) (now (location .entry)) «start_free_region» ⌝ }
 {
-    let mut index_at = [EMPTY; 1024];
+    let mut index_at = [NO_INDEX; 1024];
     compact_with(&mut index_at, store, location, shape, start_free_region)
 }
 
@@ -62,7 +62,7 @@ fn compact_4096(
     requires { ⌜ Compactable (shape .dimensions) (shape .base) (now location) «start_free_region» (length (now store)) × («start_free_region» / shape .base ≤ 4096) ⌝ }
     ensures { λ r. ⌜ layout (now (store .exit)) (now (location .exit)) r ≡ compacted 0 (shape .dimensions) (shape .base) (shape .rotation) (now (store .entry)) (now (location .entry)) «start_free_region» ⌝ }
 {
-    let mut index_at = [EMPTY; 4096];
+    let mut index_at = [NO_INDEX; 4096];
     compact_with(&mut index_at, store, location, shape, start_free_region)
 }
 
@@ -75,7 +75,7 @@ fn compact_16384(
     requires { ⌜ Compactable (shape .dimensions) (shape .base) (now location) «start_free_region» (length (now store)) × («start_free_region» / shape .base ≤ 16384) ⌝ }
     ensures { λ r. ⌜ layout (now (store .exit)) (now (location .exit)) r ≡ compacted 0 (shape .dimensions) (shape .base) (shape .rotation) (now (store .entry)) (now (location .entry)) «start_free_region» ⌝ }
 {
-    let mut index_at = [EMPTY; 16384];
+    let mut index_at = [NO_INDEX; 16384];
     compact_with(&mut index_at, store, location, shape, start_free_region)
 }
 

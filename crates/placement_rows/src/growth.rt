@@ -1,6 +1,6 @@
 // How long the table or the store becomes, and what fills the new entries.
-use super::EMPTY;
 use super::words::fill;
+use terms::EMPTY_PLACE;
 use terms::FloatBits;
 ghost use mathlib.Core.Path.{_≡_};
 ghost use Prim.Native.Nat.{_-_, _≤_};
@@ -47,5 +47,5 @@ pub fn grow_table(reference_count: &mut [u16], location: &mut [u16], old: usize,
     ensures places { λ _. ⌜ now (location .exit) ≡ filled 65535 old (new - old) (now (location .entry)) ⌝ }
 {
     fill_table(reference_count, old, new, 0);
-    fill_table(location, old, new, EMPTY);
+    fill_table(location, old, new, EMPTY_PLACE);
 }

@@ -1,5 +1,5 @@
 // A table from place to index.
-use super::EMPTY;
+use terms::EMPTY_PLACE;
 ghost use mathlib.Core.Path.{_≡_};
 ghost use Prim.Native.Nat.{ℕ, _≤_, _<_};
 ghost use lib.ListN.{length, getD, replicate};
@@ -16,7 +16,7 @@ pub fn index_places(location: &[u16], index_at: &mut [u16])
     let mut i = 0;
     while i < location.len() {
         let place = location[i];
-        if place != EMPTY {
+        if place != EMPTY_PLACE {
             index_at[place as usize] = i as u16;
         }
         i += 1;

@@ -30,5 +30,5 @@ pub use rows::row;
 pub use words::copy_from;
 pub use words::fill;
 
-// The place of an index that has no point, and the index of a place where none stands.
-const EMPTY: u16 = 65535;
+// The index at a place where no point stands.
+const NO_INDEX: u16 = 65535;

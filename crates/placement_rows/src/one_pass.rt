@@ -1,6 +1,6 @@
 // One pass over the places in order: the words of each point are moved while its block's end is still being found, and its place is
 // written as it goes.
-use super::EMPTY;
+use super::NO_INDEX;
 use super::words::copy_down;
 use super::words::fill;
 use terms::FloatBits;
@@ -115,7 +115,7 @@ pub fn scan_places(
     let mut place = 0;
     while place < places {
         let index = index_at[place];
-        if index != EMPTY {
+        if index != NO_INDEX {
             done = take_point(store, location, shape, place, index as usize, done);
         }
         place += 1;

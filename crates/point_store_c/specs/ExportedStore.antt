@@ -8,11 +8,12 @@ use Rattle.terms.specs.Below.{one}
 use Rattle.placement.specs.declared.Laid.{Laid}
 use Rattle.placement.specs.declared.Laid.the-variants as atLaid
 use Rattle.placement.specs.Laying.{placeOf}
+use Rattle.store_definitions.specs.declared.Store.{Store}
 use Rattle.store_definitions.specs.declared.Shape.{Shape}
 use Rattle.store_definitions.specs.Answers.{Answer, kept, waiting, done, is, says, refused, refusedAfter, Outcome, Output}
 use Rattle.store_definitions.specs.Bounds.{boundsHold, startAllowed}
 use Rattle.store_definitions.specs.Memory.{Memory}
-use Rattle.store_definitions.specs.Opening.{OpenOutcome, opens, refuses, openSpec}
+use Rattle.store_definitions.specs.Opening.{openSpec}
 use Rattle.point_store_c.specs.Records.{storeOut, recorded}
 
 -- the return value: 0, or the refusal's number
@@ -101,9 +102,19 @@ shapeIn d n c i shingling rotation labels =
       «store_labels» = false;
     })
 
-abbrev pub openedAs : List ℕ → OpenOutcome ℕ → Exported
-openedAs words (opens p) = exported 0 (storeOut words (p .header)) [] (p .memory)
-openedAs words (refuses n m) = exported n words [] m
+-- the record after an opening: a refused one leaves it
+abbrev pub openedWords : List ℕ → Answer → Store → List ℕ
+openedWords words (kept i l w) s = words
+openedWords words waiting s = words
+openedWords words done s = storeOut words s
+openedWords words (is n) s = words
+openedWords words (says b) s = words
+openedWords words (refused n) s = words
+openedWords words (refusedAfter n before) s = words
+
+abbrev pub openedAs : List ℕ → Outcome ℕ → Exported
+openedAs words o =
+    exported (returned (o .answer)) (openedWords words (o .answer) (o .after .header)) [] (o .after .memory)
 
 -- a record too short: 'Opening checks 2, 1'
 unfoldable pub shortRecord : Shape → ℕ

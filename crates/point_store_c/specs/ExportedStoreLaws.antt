@@ -11,19 +11,16 @@ use Rattle.labels.specs.Counted.{raised}
 use Rattle.labels.specs.Labels.{labelRaised}
 use Rattle.store_definitions.specs.declared.Store.{Store}
 use Rattle.store_definitions.specs.declared.Shape.{Shape}
-use Rattle.store_definitions.specs.declared.Done.{Done}
-use Rattle.store_definitions.specs.declared.Done.the-variants as atDone
-use Rattle.store_definitions.specs.Answers.{Answer, done, refused, doneMeans, Outcome, outcome, Output, output}
+use Rattle.store_definitions.specs.Answers.{Answer, done, refused, Outcome, outcome, Output, output}
 use Rattle.store_definitions.specs.Bounds.{boundsHold, startAllowed}
 use Rattle.store_definitions.specs.Counting.{incTest, incremented, incSpec}
 use Rattle.store_definitions.specs.Decisions.{andThen, formDecided, carriedOut}
 use Rattle.store_definitions.specs.Memory.{Memory, PointStore, pointStore}
 use Rattle.store_definitions.specs.Opening.{openSpec}
 use Rattle.store_definitions.specs.Parts.{pointTable, labelHalf, withPoints, withLabels}
-use Rattle.store_rows.specs.Openings.{openedAs as opensAs}
 use Rattle.point_store_c.specs.Records.{storeOut, storeIn, recorded}
 use Rattle.point_store_c.specs.RecordLaws.{record-kept}
-use Rattle.point_store_c.specs.ExportedStore.{exported, exportedCall, Read, read, exportedReading, written, exportedOutput, returned, openedAs, shortRecord, exportedOpening}
+use Rattle.point_store_c.specs.ExportedStore.{exported, exportedCall, Read, read, exportedReading, written, exportedOutput, returned, openedWords, openedAs, shortRecord, exportedOpening}
 
 -- lent memory by its lists, in the order of the slices
 abbrev pub memory : (store window counts location starts ends labels slots labelCounts labelStarts labelEnds classes slotCounts slotStarts slotEnds : List ℕ) → Memory ℕ
@@ -90,11 +87,6 @@ inc-keeps p i l = carried (andThen (formDecided p) (incTest p i l))
     carried go = raised-keeps (p .header .«store_labels»)
     carried (refuse n) = refl
 
--- the record after an opening with this answer
-abbrev pub openedWords : List ℕ → Done → Store → List ℕ
-openedWords words atDone.Done s = storeOut words s
-openedWords words (atDone.Refused why) s = words
-
 -- a record too short, by the code's test
 module _ (h : Shape) (within : Bool) (e : within ≡ boundsHold (h .dimensions) (h .«shingle_size») (h .capacity)) where
   pub short-allowed : (within && (leb 1 (h .«initial_capacity») && leb (h .«initial_capacity») (h .capacity))) ≡ true → 1 ≡ shortRecord h
@@ -110,12 +102,8 @@ module _ (words : List ℕ) (h asked : Shape) (read-in : h ≡ asked) (m : Memor
   unfolding exportedOpening
   open-short n l e = rw (lt-leb 15 (length words) l, e, read-in)
 
-  told : (a : Done) (s : Store) (m′ : Memory ℕ) → exported (returned (doneMeans a)) (openedWords words a s) [] m′ ≡ openedAs words (opensAs a s m′)
-  told atDone.Done s m′ = refl
-  told (atDone.Refused why) s m′ = refl
-
-  pub open-long : (a : Done) (s : Store) (m′ : Memory ℕ) (n : ℕ) (words′ : List ℕ) → 15 ≤ length words → opensAs a s m′ ≡ openSpec 0 h m → (n ≡ returned (doneMeans a)) × (words′ ≡ openedWords words a s) → exported n words′ [] m′ ≡ exportedOpening words asked m
+  pub open-long : (a : Answer) (s : Store) (m′ : Memory ℕ) (n : ℕ) (words′ : List ℕ) → 15 ≤ length words → outcome a (pointStore s m′) ≡ openSpec 0 h m → (n ≡ returned a) × (words′ ≡ openedWords words a s) → exported n words′ [] m′ ≡ exportedOpening words asked m
   unfolding exportedOpening
   open-long a s m′ n words′ l ensures e =
       rw (e .0, e .1, le-leb 15 (length words) l)
-      (told a s m′ ∙ ap (openedAs words) (ensures ∙ ap (λ (k : Shape). openSpec 0 k m) read-in))
+      (ap (openedAs words) (ensures ∙ ap (λ (k : Shape). openSpec 0 k m) read-in))

@@ -1,34 +1,47 @@
 -- The library's name for itself.
-use Prim.Native.Nat.{ℕ}
+use Prim.Native.Nat.{ℕ, _≤_, _<_}
 use mathlib.Core.Bool.{cond}
-use mathlib.Core.List.{List, [], _∷_}
+use mathlib.Core.List.{List, [], _∷_, _++_}
 use mathlib.Core.Path.{_≡_}
-use lib.Dec.{eqb}
-use lib.ListN.{length}
-use borrow.Author.Tests.{eq-eqb, ne-eqb}
-use Rattle.point_store_c.specs.ExportedStore.{Written, written}
+use lib.Dec.{leb}
+use lib.ListN.{length, drop}
+use borrow.Author.Tests.{le-leb, lt-leb}
 
--- 'point store 0.1.0, port of krcf pointstore.rs 05b18fcda4' in ASCII, a line to a word
+-- 'point store 0.2.0; requests: none; port of krcf pointstore.rs 05b18fcda4; x86-64' in ASCII, a line to a word
 unfoldable pub nameText : List ℕ
 nameText =
     112 ∷ 111 ∷ 105 ∷ 110 ∷ 116 ∷ 32 ∷
     115 ∷ 116 ∷ 111 ∷ 114 ∷ 101 ∷ 32 ∷
-    48 ∷ 46 ∷ 49 ∷ 46 ∷ 48 ∷ 44 ∷ 32 ∷
+    48 ∷ 46 ∷ 50 ∷ 46 ∷ 48 ∷ 59 ∷ 32 ∷
+    114 ∷ 101 ∷ 113 ∷ 117 ∷ 101 ∷ 115 ∷ 116 ∷ 115 ∷ 58 ∷ 32 ∷
+    110 ∷ 111 ∷ 110 ∷ 101 ∷ 59 ∷ 32 ∷
     112 ∷ 111 ∷ 114 ∷ 116 ∷ 32 ∷
     111 ∷ 102 ∷ 32 ∷
     107 ∷ 114 ∷ 99 ∷ 102 ∷ 32 ∷
     112 ∷ 111 ∷ 105 ∷ 110 ∷ 116 ∷ 115 ∷ 116 ∷ 111 ∷ 114 ∷ 101 ∷ 46 ∷ 114 ∷ 115 ∷ 32 ∷
-    48 ∷ 53 ∷ 98 ∷ 49 ∷ 56 ∷ 102 ∷ 99 ∷ 100 ∷ 97 ∷ 52 ∷
+    48 ∷ 53 ∷ 98 ∷ 49 ∷ 56 ∷ 102 ∷ 99 ∷ 100 ∷ 97 ∷ 52 ∷ 59 ∷ 32 ∷
+    120 ∷ 56 ∷ 54 ∷ 45 ∷ 54 ∷ 52 ∷
     []
 
--- 'An output slice is exactly as long as its answer', else 3
-unfoldable pub exportedName : List ℕ → Written ℕ
-exportedName out = cond (eqb (length out) (length nameText)) (written 0 nameText) (written 3 out)
+-- what a C caller has after asking: the return value, its lent slice and its lent number
+pub record Named : Type 0 where
+  pub value : ℕ
+  pub out : List ℕ
+  pub size : ℕ
 
-pub name-refused : (out : List ℕ) (n : ℕ) → (length out ≡ 56 → ⊥) → n ≡ 3 → written n out ≡ exportedName out
-unfolding exportedName nameText
-name-refused out n l e = rw (ne-eqb (length out) 56 l, e)
+abbrev pub named : ℕ → List ℕ → ℕ → Named
+named value out size = record { value = value; out = out; size = size }
 
-pub name-given : (out out′ : List ℕ) → length out ≡ 56 → out′ ≡ nameText → written 0 out′ ≡ exportedName out
+-- the text at the front of the slice, the rest as it was, and the text's length; 3 where the slice is too short
+unfoldable pub exportedName : List ℕ → ℕ → Named
+exportedName out size =
+    cond (leb (length nameText) (length out)) (named 0 (nameText ++ drop (length nameText) out) (length nameText))
+    (named 3 out size)
+
+pub name-refused : (out : List ℕ) (size n : ℕ) → length out < 80 → n ≡ 3 → named n out size ≡ exportedName out size
 unfolding exportedName nameText
-name-given out out′ l e = rw (eq-eqb (length out) 56 l, e)
+name-refused out size n l e = rw (lt-leb 80 (length out) l, e)
+
+pub name-given : (out out′ : List ℕ) (size : ℕ) → 80 ≤ length out → out′ ≡ nameText ++ drop 80 out → named 0 out′ 80 ≡ exportedName out size
+unfolding exportedName nameText
+name-given out out′ size l e = rw (le-leb 80 (length out) l, e)

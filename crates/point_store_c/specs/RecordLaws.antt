@@ -13,9 +13,10 @@ use Rattle.terms.specs.Below.{one, both}
 use Rattle.store_definitions.specs.declared.Store.{Store}
 use Rattle.store_definitions.specs.Memory.{Memory, pointStore}
 use Rattle.store_definitions.specs.Bounds.{boundsHold}
+use Rattle.store_definitions.specs.Opening.{noRecord}
 use Rattle.store_definitions.specs.WellFormed.{wellFormed}
 use Rattle.point_store_c.specs.ExportedLaws.{cast-one}
-use Rattle.point_store_c.specs.Records.{storeWords, storeOut, legalRecord, storeRead, noStore, storeIn, recorded}
+use Rattle.point_store_c.specs.Records.{storeWords, storeOut, legalRecord, storeRead, storeIn, recorded}
 
 -- the first fifteen words are the store's, and a longer record keeps its rest
 pub out-words : (words : List ℕ) (s : Store) → 15 ≤ length words → storeOut words s ≡ storeWords s ++ drop 15 words
@@ -94,7 +95,7 @@ module _ (words : List ℕ) where
   unfolding storeIn
   legal-read e = rw e
 
-  pub illegal-read : legalRecord words ≡ false → noStore ≡ storeIn words
+  pub illegal-read : legalRecord words ≡ false → noRecord ≡ storeIn words
   unfolding storeIn
   illegal-read e = rw e
 

@@ -1,6 +1,6 @@
 -- A store's record as a C caller lends it: a slice of words, of which a longer one keeps its rest.
 use Prim.Native.Nat.{ℕ}
-use mathlib.Core.Bool.{Bool, false, cond, _&&_}
+use mathlib.Core.Bool.{Bool, cond, _&&_}
 use mathlib.Core.List.{List, [], _∷_}
 use lib.Dec.{leb, ltb, eqb}
 use lib.ListN.{length, getD}
@@ -8,6 +8,7 @@ use lib.Seq.{sets}
 use Rattle.terms.specs.Below.{one}
 use Rattle.interval_store_manager.specs.Calls.{manager}
 use Rattle.store_definitions.specs.declared.Store.{Store}
+use Rattle.store_definitions.specs.Opening.{noRecord}
 
 -- the words of a store, from word 0 on; a flag is 0 or 1
 abbrev pub storeWords : Store → List ℕ
@@ -47,27 +48,9 @@ storeRead words =
       «attribute_manager» = manager (getD words 13 0) (getD words 14 0);
     }
 
--- what an illegal record is read as: a store of zeros, which is ill-formed
-abbrev pub noStore : Store
-noStore =
-    record {
-      dimensions = 0;
-      «shingle_size» = 0;
-      capacity = 0;
-      «internal_shingling» = false;
-      «internal_rotation» = false;
-      «store_labels» = false;
-      «store_length» = 0;
-      «start_free_region» = 0;
-      «next_sequence_index» = 0;
-      «index_manager» = manager 0 0;
-      «label_manager» = manager 0 0;
-      «attribute_manager» = manager 0 0;
-    }
-
--- the store that a record holds
+-- the store that a record holds; an illegal one is read as the record of zeros
 unfoldable pub storeIn : List ℕ → Store
-storeIn words = cond (legalRecord words) (storeRead words) noStore
+storeIn words = cond (legalRecord words) (storeRead words) noRecord
 
 -- the record after a call that leaves the store s; an illegal one is left as it was
 unfoldable pub recorded : List ℕ → Store → List ℕ

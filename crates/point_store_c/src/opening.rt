@@ -5,8 +5,7 @@ ghost use mathlib.Core.List.{[]};
 ghost use lib.ListN.{length};
 ghost use Rattle.store_definitions.specs.Answers.{doneMeans};
 ghost use Rattle.store_definitions.specs.Lent.{entered, left};
-ghost use Rattle.point_store_c.specs.ExportedStore.{returned, exported, shapeIn, shortRecord, exportedOpening};
-ghost use Rattle.point_store_c.specs.ExportedStoreLaws.{openedWords};
+ghost use Rattle.point_store_c.specs.ExportedStore.{returned, openedWords, exported, shapeIn, shortRecord, exportedOpening};
 use crate::record::RECORD_WORDS;
 use crate::record::record_write;
 use store_check::bounds_hold;
@@ -64,7 +63,7 @@ fn short_record(shape: Shape) -> u64
 // A refused opening leaves the record.
 fn opened_out(words: &mut [u64], result: DoneResult) -> u64
     requires { ⌜ 15 ≤ length (now words) ⌝ }
-    ensures { λ r. ⌜ (r ≡ returned (doneMeans (result .answer))) × (now (words .exit) ≡ openedWords (now (words .entry)) (result .answer) (result .store)) ⌝ }
+    ensures { λ r. ⌜ (r ≡ returned (doneMeans (result .answer))) × (now (words .exit) ≡ openedWords (now (words .entry)) (doneMeans (result .answer)) (result .store)) ⌝ }
 {
     let answer = result.answer;
     match answer {

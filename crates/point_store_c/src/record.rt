@@ -2,9 +2,10 @@
 ghost use mathlib.Core.Path.{_≡_};
 ghost use Prim.Native.Nat.{_≤_, _<_};
 ghost use lib.ListN.{length, getD};
-ghost use Rattle.point_store_c.specs.Records.{storeOut, legalRecord, storeRead, noStore, storeIn, recorded};
+ghost use Rattle.point_store_c.specs.Records.{storeOut, legalRecord, storeRead, storeIn, recorded};
 use interval_store_manager::IntervalStoreManager;
 use store_definitions::Store;
+use store_rows::no_record;
 
 pub const RECORD_WORDS: usize = 15;
 
@@ -18,38 +19,14 @@ fn record_legal(words: &[u64]) -> bool
     (words[3] < 2) & ((words[4] < 2) & ((words[5] < 2) & (words[8] < 0x1_0000_0000)))
 }
 
-// What an illegal record holds: a store of zeros, which every call refuses as ill-formed.
-fn no_store() -> Store
-    ensures { λ r. ⌜ r ≡ noStore ⌝ }
-{
-    let none = IntervalStoreManager {
-        capacity: 0,
-        last_in_use: 0,
-    };
-    Store {
-        dimensions: 0,
-        shingle_size: 0,
-        capacity: 0,
-        internal_shingling: false,
-        internal_rotation: false,
-        store_labels: false,
-        store_length: 0,
-        start_free_region: 0,
-        next_sequence_index: 0,
-        index_manager: none,
-        label_manager: none,
-        attribute_manager: none,
-    }
-}
-
-// The store that a record holds.
+// The store that a record holds; an illegal one is read as the record of zeros, which every call refuses as ill-formed.
 pub fn store_in(words: &[u64]) -> Store
     ensures { λ r. ⌜ r ≡ storeIn (now (words .entry)) ⌝ }
 {
     if record_legal(words) {
         return store_read(words);
     }
-    no_store()
+    no_record()
 }
 
 // Of a legal record.

@@ -13,15 +13,15 @@ use Rattle.float_bits.specs.Rows.{all-equal-split}
 use Rattle.placement.specs.Copying.{turn, turned, copied}
 use Rattle.placement.specs.Row.{piece}
 use Rattle.store_definitions.specs.declared.Store.{Store}
-use Rattle.store_definitions.specs.Memory.{PointStore, pointStore}
+use Rattle.store_definitions.specs.Memory.{PointStore, pointStore, rowsAlone}
 use Rattle.store_definitions.specs.Answers.{Answer, says, refused}
 use Rattle.store_definitions.specs.Parts.{baseOf, tableLength}
 use Rattle.store_definitions.specs.Decisions.{formDecided, live, touchDecided}
 use Rattle.store_definitions.specs.Rows.{copyOf, copyDecided}
-use Rattle.store_definitions.specs.Sums.{answers, isEqualSpec}
+use Rattle.store_definitions.specs.Sums.{equality, isEqualSpec}
 use Rattle.store_definitions.specs.WellFormed.{wellFormed}
 use Rattle.store_laws.specs.DecisionLaws.{touch-go}
-use Rattle.store_rows.specs.Copying.{copyAllowed, read-place}
+use Rattle.store_rows.specs.Copying.{read-place}
 use Rattle.store_counts.specs.Tables.{countsAlone}
 
 -- a live index is below the table length and counted
@@ -30,14 +30,13 @@ unfolding touchDecided
 live-is p i e = touch-go p i (rw e)
 
 module _ {E : Type 0} (eq : E → E → Bool) where
-  unfoldable pub checkedEquality : Store → List E → (counts location : List ℕ) → ℕ → List E → Answer
-  checkedEquality s elements counts location i point =
-      answers (copyAllowed s counts i (length point))
-      (allEqual eq (copied (s .«internal_rotation») (s .dimensions) (baseOf s) (getD location i 65535) elements) point)
+  -- what equality reads of a store
+  abbrev pub checkedEquality : Store → List E → (counts location : List ℕ) → ℕ → List E → Answer
+  checkedEquality s elements counts location i point = equality eq (pointStore s (rowsAlone elements counts location)) i point
 
   -- a well-formed store answers so
   pub equality-checked : (p : PointStore E) (i : ℕ) (point : List E) → wellFormed p ≡ true → checkedEquality (p .header) (p .memory .store) (p .memory .referenceCount) (p .memory .location) i point ≡ isEqualSpec eq p i point
-  unfolding checkedEquality isEqualSpec copyDecided copyAllowed copyOf formDecided touchDecided live
+  unfolding isEqualSpec equality copyDecided copyOf formDecided touchDecided live
   equality-checked p i point e = rw e
 
   -- the ways out
@@ -46,17 +45,17 @@ module _ {E : Type 0} (eq : E → E → Bool) where
     inUse = live (pointStore s (countsAlone counts [])) i
 
     pub equality-dead : inUse ≡ false → refused 5 ≡ checkedEquality s elements counts location i point
-    unfolding checkedEquality copyAllowed live
+    unfolding equality copyDecided copyOf touchDecided live
     equality-dead e = rw e
 
     pub equality-length : inUse ≡ true → (length point ≡ s .dimensions → ⊥) → refused 3 ≡ checkedEquality s elements counts location i point
-    unfolding checkedEquality copyAllowed live
+    unfolding equality copyDecided copyOf touchDecided live
     equality-length e d = rw (e, ne-eqb (length point) (s .dimensions) d)
 
     pub equality-read : inUse ≡ true → length point ≡ s .dimensions → i < length location → (b : Bool)
         → b ≡ allEqual eq (copied (s .«internal_rotation») (s .dimensions) (baseOf s) (getD location i 0) elements) point
         → says b ≡ checkedEquality s elements counts location i point
-    unfolding checkedEquality copyAllowed live
+    unfolding equality copyDecided copyOf touchDecided live
     equality-read e l h b q = rw (e, eq-eqb (length point) (s .dimensions) l, q, read-place location i h)
 
   -- the two parts of a turned row

@@ -9,13 +9,12 @@ use lib.ListN.{length}
 use lib.Dec.{ltb, eqb}
 use borrow.Author.Tests.{lt-ltb, le-ltb, eq-eqb, ne-eqb, ltb-true}
 use Rattle.terms.specs.Below.{both, and-make}
-use Rattle.interval_store_manager.specs.Calls.{Decided}
 use Rattle.store_definitions.specs.declared.Store.{Store}
 use Rattle.store_definitions.specs.Memory.{PointStore}
-use Rattle.store_definitions.specs.Answers.{done, refused, Output, output}
+use Rattle.store_definitions.specs.Answers.{done, refused, output}
 use Rattle.store_definitions.specs.Parts.{baseOf, extraOf}
-use Rattle.store_definitions.specs.Decisions.{andThen, refuseIf, formDecided, writes}
-use Rattle.store_definitions.specs.IndexLists.{valueLimit, valuesBelow, indexOf, upTo, indexListDecided, missingIndicesSpec, nextIndicesSpec}
+use Rattle.store_definitions.specs.Decisions.{formDecided}
+use Rattle.store_definitions.specs.IndexLists.{valueLimit, valuesBelow, indexOf, upTo, nextValues, indexListDecided, indicesWritten, missingIndicesSpec, nextIndicesSpec}
 use Rattle.store_definitions.specs.WellFormed.{wellFormed}
 use Rattle.row_readings.specs.Shingled.{Shingled, base-within, turn-room, turn-entry}
 
@@ -24,28 +23,15 @@ pub record FirstIndex (s : Store) (lookAhead first : ℕ) : Type 0 where
   pub room : first + valueLimit s ≤ s .dimensions
   pub entry : (v : ℕ) → v < valueLimit s → first + v ≡ indexOf s lookAhead v
 
--- '3, then the first bad value or look-ahead 11'
-unfoldable pub listAllowed : Store → ℕ → List ℕ → ℕ → Decided
-listAllowed s lookAhead values out =
-    andThen (refuseIf (not (eqb out (length values))) 3)
-    (refuseIf (ltb 65535 lookAhead || not (valuesBelow (valueLimit s) values)) 11)
-
-unfoldable pub checkedMissing : Store → ℕ → (values out : List ℕ) → Output ℕ
-checkedMissing s lookAhead values out =
-    writes (listAllowed s lookAhead values (length out)) out (map (indexOf s lookAhead) values)
-
-abbrev pub checkedNext : Store → ℕ → (out : List ℕ) → Output ℕ
-checkedNext s lookAhead out = checkedMissing s lookAhead (upTo (baseOf s) []) out
-
 -- a well-formed store lists so
 module _ {E : Type 0} (p : PointStore E) (lookAhead : ℕ) where
-  pub missing-checked : (values out : List ℕ) → wellFormed p ≡ true → checkedMissing (p .header) lookAhead values out ≡ missingIndicesSpec p lookAhead values out
-  unfolding checkedMissing listAllowed missingIndicesSpec indexListDecided formDecided
+  pub missing-checked : (values out : List ℕ) → wellFormed p ≡ true → indicesWritten (p .header) lookAhead values out ≡ missingIndicesSpec p lookAhead values out
+  unfolding missingIndicesSpec formDecided
   missing-checked values out e = rw e
 
-  pub next-checked : (out : List ℕ) → wellFormed p ≡ true → checkedNext (p .header) lookAhead out ≡ nextIndicesSpec p lookAhead out
+  pub next-checked : (out : List ℕ) → wellFormed p ≡ true → indicesWritten (p .header) lookAhead (nextValues (p .header)) out ≡ nextIndicesSpec p lookAhead out
   unfolding nextIndicesSpec
-  next-checked out e = missing-checked (upTo (baseOf (p .header)) []) out e
+  next-checked out e = missing-checked (nextValues (p .header)) out e
 
 -- 0 to n − 1: each below n, and n of them
 module _ (limit : ℕ) where
@@ -104,21 +90,21 @@ each-stands s lookAhead first f (v ∷ vs) e =
 
 -- the ways out
 module _ (s : Store) (lookAhead : ℕ) (values out : List ℕ) where
-  pub other-count : (length out ≡ length values → ⊥) → output (refused 3) out ≡ checkedMissing s lookAhead values out
-  unfolding checkedMissing listAllowed
+  pub other-count : (length out ≡ length values → ⊥) → output (refused 3) out ≡ indicesWritten s lookAhead values out
+  unfolding indicesWritten indexListDecided
   other-count d = rw (ne-eqb (length out) (length values) d)
 
   module _ (counted : length out ≡ length values) where
-    pub far-ahead : 65535 < lookAhead → output (refused 11) out ≡ checkedMissing s lookAhead values out
-    unfolding checkedMissing listAllowed
+    pub far-ahead : 65535 < lookAhead → output (refused 11) out ≡ indicesWritten s lookAhead values out
+    unfolding indicesWritten indexListDecided
     far-ahead h = rw (eq-eqb (length out) (length values) counted, lt-ltb 65535 lookAhead h)
 
     module _ (near : lookAhead ≤ 65535) where
-      pub value-above : valuesBelow (valueLimit s) values ≡ false → output (refused 11) out ≡ checkedMissing s lookAhead values out
-      unfolding checkedMissing listAllowed
+      pub value-above : valuesBelow (valueLimit s) values ≡ false → output (refused 11) out ≡ indicesWritten s lookAhead values out
+      unfolding indicesWritten indexListDecided
       value-above e = rw (eq-eqb (length out) (length values) counted, le-ltb 65535 lookAhead near, e)
 
-      pub list-written : (first : ℕ) (now : List ℕ) → FirstIndex s lookAhead first → valuesBelow (valueLimit s) values ≡ true → now ≡ map (λ v. first + v) values → output done now ≡ checkedMissing s lookAhead values out
-      unfolding checkedMissing listAllowed
+      pub list-written : (first : ℕ) (now : List ℕ) → FirstIndex s lookAhead first → valuesBelow (valueLimit s) values ≡ true → now ≡ map (λ v. first + v) values → output done now ≡ indicesWritten s lookAhead values out
+      unfolding indicesWritten indexListDecided
       list-written first now f e w =
           rw (eq-eqb (length out) (length values) counted, le-ltb 65535 lookAhead near, e, w) (ap (output done) (each-stands s lookAhead first f values e))

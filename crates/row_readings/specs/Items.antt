@@ -1,16 +1,12 @@
 -- The items of a sum as plain numbers, what of a store a sum reads, and the sum on a store that is known to be well-formed.
 use Prim.Native.Nat.{ℕ, _+_, _*_, _≤_, _<_}
-use mathlib.Core.Bool.{not}
 use mathlib.Core.List.{List, [], _∷_}
-use lib.ListN.{length, getD, replicate}
-use lib.Dec.{eqb}
+use lib.ListN.{length, getD}
 use Rattle.store_definitions.specs.declared.Store.{Store}
-use Rattle.store_definitions.specs.Memory.{Memory, pointStore}
+use Rattle.store_definitions.specs.Memory.{pointStore, rowsAlone}
 use Rattle.store_definitions.specs.Answers.{Output}
 use Rattle.store_definitions.specs.Parts.{baseOf}
-use Rattle.store_definitions.specs.Decisions.{andThen, refuseIf, writes}
-use Rattle.store_definitions.specs.Sums.{Weighted, itemsDecided, summed}
-use Rattle.store_counts.specs.Tables.{countsAlone}
+use Rattle.store_definitions.specs.Sums.{Weighted, sumWritten}
 
 abbrev pub weighted : ℕ → ℕ → Weighted
 weighted i w = record { index = i; weight = w }
@@ -23,27 +19,6 @@ unfoldable pub weightings : List (List ℕ) → List Weighted
 weightings [] = []
 weightings (r ∷ rs) = weighting r ∷ weightings rs
 
--- the elements and the places, and nothing else: no sum reads further
-abbrev pub rowsAlone : {E : Type 0} → List E → List ℕ → Memory E
-rowsAlone elements location =
-    record {
-      store = elements;
-      lastKnownShingle = [];
-      referenceCount = [];
-      location = location;
-      indexStarts = [];
-      indexEnds = [];
-      labels = [];
-      labelAttributes = [];
-      labelCount = [];
-      labelStarts = [];
-      labelEnds = [];
-      attributes = [];
-      attributeCount = [];
-      attributeStarts = [];
-      attributeEnds = [];
-    }
-
 -- what adding an item relies on: its row within the elements, and a weight whose float is exact
 pub record Addable (s : Store) (floats : ℕ) (location : List ℕ) (w : Weighted) : Type 0 where
   pub shingle-some : 0 < s .«shingle_size»
@@ -54,10 +29,7 @@ pub record Addable (s : Store) (floats : ℕ) (location : List ℕ) (w : Weighte
 pub record AllAddable (s : Store) (floats : ℕ) (location : List ℕ) (items : List (List ℕ)) : Type 0 where
   pub each : (k : ℕ) → k < length items → Addable s floats location (weighting (getD items k []))
 
--- '3, then per item 5, 11'
-unfoldable pub checkedSum : {E S : Type 0} → (ℕ → List S → List E → List S) → S → Store → List E → (counts location : List ℕ) → List Weighted → List S → Output S
+-- what a sum reads of a store
+abbrev pub checkedSum : {E S : Type 0} → (ℕ → List S → List E → List S) → S → Store → List E → (counts location : List ℕ) → List Weighted → List S → Output S
 checkedSum add zeroSum s elements counts location ws out =
-    writes
-    (andThen (refuseIf (not (eqb (length out) (s .dimensions))) 3) (itemsDecided (pointStore s (countsAlone counts [])) ws))
-    out
-    (summed add (pointStore s (rowsAlone elements location)) ws (replicate (s .dimensions) zeroSum))
+    sumWritten add zeroSum (pointStore s (rowsAlone elements counts location)) ws out

@@ -12,13 +12,12 @@ use borrow.Author.Tests.{eq-eqb, ne-eqb, eqb-true}
 use Rattle.terms.specs.Below.{both}
 use Rattle.placement.specs.Places.{Shaped}
 use Rattle.placement.specs.Row.{movedWindow}
-use Rattle.interval_store_manager.specs.Calls.{Decided}
 use Rattle.store_definitions.specs.declared.Store.{Store}
 use Rattle.store_definitions.specs.Memory.{PointStore}
-use Rattle.store_definitions.specs.Answers.{done, refused, Output, output}
+use Rattle.store_definitions.specs.Answers.{done, refused, output}
 use Rattle.store_definitions.specs.Parts.{baseOf}
-use Rattle.store_definitions.specs.Decisions.{refuseIf, formDecided, writes}
-use Rattle.store_definitions.specs.Preview.{previews, previewDecided, previewed, shingledPointSpec}
+use Rattle.store_definitions.specs.Decisions.{formDecided}
+use Rattle.store_definitions.specs.Preview.{previews, previewDecided, shown, previewed, previewWritten, shingledPointSpec}
 use Rattle.store_definitions.specs.WellFormed.{wellFormed}
 
 pub previews-base : (s : Store) (n : ℕ) → previews s n ≡ true → n ≡ baseOf s
@@ -32,30 +31,10 @@ pub record Shown (dims window point out : ℕ) : Type 0 where
   pub window-lent : dims ≤ window
   pub out-fits : out ≡ dims
 
--- 'the window moved by base with the point last, or with rotation the unmoved window with the point over entry
--- (sequence × base) mod dimensions'
-unfoldable pub shown : {E : Type 0} → Bool → (dims base sequence : ℕ) → (window point : List E) → List E
-shown rotation dims base sequence window point =
-    cond rotation
-    (paste (take dims window) (sequence * base % dims) point base)
-    (movedWindow base (take dims window) point)
-
--- '3', of the lengths of point and output
-unfoldable pub previewAllowed : Store → ℕ → ℕ → Decided
-previewAllowed s n out =
-    refuseIf (not (cond (previews s n) (s .«internal_shingling») (eqb n (s .dimensions)) && eqb out (s .dimensions))) 3
-
-unfoldable pub checkedPreview : {E : Type 0} → Store → (window point out : List E) → Output E
-checkedPreview s window point out =
-    writes (previewAllowed s (length point) (length out)) out
-    (cond (previews s (length point))
-    (shown (s .«internal_rotation») (s .dimensions) (baseOf s) (s .«next_sequence_index») window point)
-    point)
-
 -- a well-formed store previews so
 module _ {E : Type 0} (p : PointStore E) (point out : List E) where
-  pub preview-checked : wellFormed p ≡ true → checkedPreview (p .header) (p .memory .lastKnownShingle) point out ≡ shingledPointSpec p point out
-  unfolding checkedPreview shown previewAllowed shingledPointSpec previewDecided previewed formDecided
+  pub preview-checked : wellFormed p ≡ true → previewWritten (p .header) (p .memory .lastKnownShingle) point out ≡ shingledPointSpec p point out
+  unfolding shingledPointSpec formDecided
   preview-checked e = rw e
 
 -- a point of the output's length, written over it
@@ -82,30 +61,30 @@ module _ {E : Type 0} (dims : ℕ) (window out : List E) (lent : dims ≤ length
 
 -- the ways out
 module _ {E : Type 0} (s : Store) (window point out : List E) where
-  pub other-output : (length out ≡ s .dimensions → ⊥) → output (refused 3) out ≡ checkedPreview s window point out
-  unfolding checkedPreview previewAllowed
+  pub other-output : (length out ≡ s .dimensions → ⊥) → output (refused 3) out ≡ previewWritten s window point out
+  unfolding previewWritten previewDecided previewed
   other-output d =
       rw (ne-eqb (length out) (s .dimensions) d, and-false (cond (previews s (length point)) (s .«internal_shingling») (eqb (length point) (s .dimensions))))
 
   module _ (fits : length out ≡ s .dimensions) where
-    pub no-window : previews s (length point) ≡ true → s .«internal_shingling» ≡ false → output (refused 3) out ≡ checkedPreview s window point out
-    unfolding checkedPreview previewAllowed
+    pub no-window : previews s (length point) ≡ true → s .«internal_shingling» ≡ false → output (refused 3) out ≡ previewWritten s window point out
+    unfolding previewWritten previewDecided previewed
     no-window e off = rw (e, off)
 
     pub window-shown : (now : List E) → previews s (length point) ≡ true → s .«internal_shingling» ≡ true
         → now ≡ shown (s .«internal_rotation») (s .dimensions) (length point) (s .«next_sequence_index») window point
-        → output done now ≡ checkedPreview s window point out
-    unfolding checkedPreview previewAllowed
+        → output done now ≡ previewWritten s window point out
+    unfolding previewWritten previewDecided previewed
     window-shown now e on w =
         rw (e, on, eq-eqb (length out) (s .dimensions) fits, w, previews-base s (length point) e)
 
-    pub other-point : previews s (length point) ≡ false → (length point ≡ s .dimensions → ⊥) → output (refused 3) out ≡ checkedPreview s window point out
-    unfolding checkedPreview previewAllowed
+    pub other-point : previews s (length point) ≡ false → (length point ≡ s .dimensions → ⊥) → output (refused 3) out ≡ previewWritten s window point out
+    unfolding previewWritten previewDecided previewed
     other-point e d = rw (e, ne-eqb (length point) (s .dimensions) d)
 
     pub point-shown : (now : List E) → previews s (length point) ≡ false → length point ≡ s .dimensions → now ≡ paste out 0 point (length point)
-        → output done now ≡ checkedPreview s window point out
-    unfolding checkedPreview previewAllowed
+        → output done now ≡ previewWritten s window point out
+    unfolding previewWritten previewDecided previewed
     point-shown now e d w =
         rw (e, eq-eqb (length point) (s .dimensions) d, eq-eqb (length out) (s .dimensions) fits)
         (ap (output done) (w ∙ point-laid point out (omega arith)))

@@ -12,16 +12,16 @@ use borrow.Author.Tests.{lt-ltb, le-ltb, eq-eqb, ne-eqb, ltb-false}
 use Rattle.interval_store_manager.specs.Calls.{Decided, go, refuse}
 use Rattle.placement.specs.Row.{piece}
 use Rattle.store_definitions.specs.declared.Store.{Store}
-use Rattle.store_definitions.specs.Memory.{PointStore, pointStore}
+use Rattle.store_definitions.specs.Memory.{PointStore, pointStore, rowsAlone}
 use Rattle.store_definitions.specs.Answers.{done, refused, output}
 use Rattle.store_definitions.specs.Parts.{baseOf}
 use Rattle.store_definitions.specs.Decisions.{andThen, refuseIf, formDecided, live, touchDecided}
-use Rattle.store_definitions.specs.Sums.{Weighted, itemsDecided, storedRow, summed, pointSumSpec}
+use Rattle.store_definitions.specs.Sums.{Weighted, itemsDecided, storedRow, summed, sumWritten, pointSumSpec}
 use Rattle.store_definitions.specs.WellFormed.{wellFormed}
 use Rattle.store_laws.specs.DecisionLaws.{touch-go}
 use Rattle.store_rows.specs.Copying.{Readable, row-inside, read-place}
 use Rattle.store_counts.specs.Tables.{countsAlone}
-use Rattle.row_readings.specs.Items.{weighted, weighting, weightings, rowsAlone, Addable, AllAddable, checkedSum}
+use Rattle.row_readings.specs.Items.{weighted, weighting, weightings, Addable, AllAddable, checkedSum}
 
 -- ---- decisions in a row
 
@@ -49,7 +49,7 @@ module _ {E : Type 0} (p : PointStore E) where
   items-alone [] = refl
   items-alone (w ∷ ws) = rw (items-alone ws)
 
-  pub summed-alone : {S : Type 0} (add : ℕ → List S → List E → List S) (ws : List Weighted) (sums : List S) → summed add (pointStore (p .header) (rowsAlone (p .memory .store) (p .memory .location))) ws sums ≡ summed add p ws sums
+  pub summed-alone : {S : Type 0} (add : ℕ → List S → List E → List S) (ws : List Weighted) (sums : List S) → summed add (pointStore (p .header) (rowsAlone (p .memory .store) [] (p .memory .location))) ws sums ≡ summed add p ws sums
   unfolding summed storedRow
   summed-alone add [] sums = refl
   summed-alone add (w ∷ ws) sums = summed-alone add ws (add (w .weight) sums (storedRow p (w .index)))
@@ -143,7 +143,7 @@ module _ (s : Store) (floats : ℕ) (counts location : List ℕ) (r : Readable s
 
 -- the row that the code reads
 pub row-read : {E : Type 0} (s : Store) (elements : List E) (location : List ℕ) (i : ℕ) → i < length location
-    → piece (getD location i 0 * baseOf s) (getD location i 0 * baseOf s + s .dimensions - getD location i 0 * baseOf s) elements ≡ storedRow (pointStore s (rowsAlone elements location)) i
+    → piece (getD location i 0 * baseOf s) (getD location i 0 * baseOf s + s .dimensions - getD location i 0 * baseOf s) elements ≡ storedRow (pointStore s (rowsAlone elements [] location)) i
 unfolding storedRow
 row-read s elements location i h =
     let start = getD location i 0 * baseOf s in
@@ -154,18 +154,25 @@ row-read s elements location i h =
 
 module _ {E S : Type 0} (add : ℕ → List S → List E → List S) (zeroSum : S) where
   pub sum-checked : (p : PointStore E) (ws : List Weighted) (out : List S) → wellFormed p ≡ true → checkedSum add zeroSum (p .header) (p .memory .store) (p .memory .referenceCount) (p .memory .location) ws out ≡ pointSumSpec add zeroSum p ws out
-  unfolding checkedSum pointSumSpec formDecided
-  sum-checked p ws out e = rw (e, items-alone p ws, summed-alone p add ws (replicate (p .header .dimensions) zeroSum))
+  unfolding sumWritten pointSumSpec formDecided
+  sum-checked p ws out e =
+      let q : PointStore E = pointStore (p .header) (rowsAlone (p .memory .store) (p .memory .referenceCount) (p .memory .location)) in
+      let zeros : List S = replicate (p .header .dimensions) zeroSum in
+      rw (e, sym (items-alone p ws), sym (items-alone q ws), sym (summed-alone p add ws zeros), sym (summed-alone q add ws zeros))
 
   module _ (s : Store) (elements : List E) (counts location : List ℕ) (ws : List Weighted) (out : List S) where
+    abbrev q : PointStore E
+    q = pointStore s (rowsAlone elements counts location)
+
     pub sum-length : (length out ≡ s .dimensions → ⊥) → output (refused 3) out ≡ checkedSum add zeroSum s elements counts location ws out
-    unfolding checkedSum
+    unfolding sumWritten
     sum-length d = rw (ne-eqb (length out) (s .dimensions) d)
 
     pub sum-refused : length out ≡ s .dimensions → (n : ℕ) → itemsDecided (pointStore s (countsAlone counts [])) ws ≡ refuse n → output (refused n) out ≡ checkedSum add zeroSum s elements counts location ws out
-    unfolding checkedSum
-    sum-refused l n e = rw (eq-eqb (length out) (s .dimensions) l, e)
+    unfolding sumWritten
+    sum-refused l n e = rw (eq-eqb (length out) (s .dimensions) l, sym (items-alone q ws) ∙ e)
 
-    pub sum-written : length out ≡ s .dimensions → itemsDecided (pointStore s (countsAlone counts [])) ws ≡ go → (after : List S) → after ≡ summed add (pointStore s (rowsAlone elements location)) ws (replicate (length out) zeroSum) → output done after ≡ checkedSum add zeroSum s elements counts location ws out
-    unfolding checkedSum
-    sum-written l e after f = rw (eq-eqb (length out) (s .dimensions) l, e, f, l)
+    pub sum-written : length out ≡ s .dimensions → itemsDecided (pointStore s (countsAlone counts [])) ws ≡ go → (after : List S) → after ≡ summed add (pointStore s (rowsAlone elements [] location)) ws (replicate (length out) zeroSum) → output done after ≡ checkedSum add zeroSum s elements counts location ws out
+    unfolding sumWritten
+    sum-written l e after f =
+        rw (eq-eqb (length out) (s .dimensions) l, sym (items-alone q ws) ∙ e, f, l, sym (summed-alone q add ws (replicate (s .dimensions) zeroSum)))

@@ -4,9 +4,9 @@ ghost use mathlib.Core.Path.{_≡_};
 ghost use lib.ListN.{length, getD};
 ghost use Prim.Native.Nat.{ℕ, _+_, _^_, _<_, _≤_};
 ghost use Rattle.store_definitions.specs.Answers.{doneMeans, output};
-ghost use Rattle.store_definitions.specs.IndexLists.{valueLimit, valuesBelow, upTo};
+ghost use Rattle.store_definitions.specs.IndexLists.{valueLimit, valuesBelow, upTo, nextValues, indicesWritten};
 ghost use Rattle.row_readings.specs.Shingled.{Shingled};
-ghost use Rattle.row_readings.specs.IndexReadings.{FirstIndex, checkedMissing, checkedNext};
+ghost use Rattle.row_readings.specs.IndexReadings.{FirstIndex};
 use store_definitions::Done;
 use store_definitions::Store;
 use terms::Refusal;
@@ -84,7 +84,7 @@ pub fn missing_indices_unchecked(
     out: &mut [usize],
 ) -> Done
     requires { ⌜ Shingled s ⌝ }
-    ensures { λ r. ⌜ output (doneMeans r) (now (out .exit)) ≡ checkedMissing s «look_ahead» (now (values .entry)) (now (out .entry)) ⌝ }
+    ensures { λ r. ⌜ output (doneMeans r) (now (out .exit)) ≡ indicesWritten s «look_ahead» (now (values .entry)) (now (out .entry)) ⌝ }
 {
     if out.len() != values.len() {
         return Done::Refused(Refusal::Length);
@@ -103,7 +103,7 @@ pub fn missing_indices_unchecked(
 
 pub fn next_indices_unchecked(s: Store, look_ahead: usize, out: &mut [usize]) -> Done
     requires { ⌜ Shingled s ⌝ }
-    ensures { λ r. ⌜ output (doneMeans r) (now (out .exit)) ≡ checkedNext s «look_ahead» (now (out .entry)) ⌝ }
+    ensures { λ r. ⌜ output (doneMeans r) (now (out .exit)) ≡ indicesWritten s «look_ahead» (nextValues s) (now (out .entry)) ⌝ }
 {
     let base = s.dimensions / s.shingle_size;
     if out.len() != base {

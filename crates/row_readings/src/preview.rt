@@ -4,7 +4,8 @@ ghost use lib.ListN.{length};
 ghost use Prim.Native.Nat.{_≤_};
 ghost use Rattle.store_definitions.specs.Answers.{doneMeans, output};
 ghost use Rattle.row_readings.specs.Shingled.{Shingled};
-ghost use Rattle.row_readings.specs.Previews.{Shown, shown, checkedPreview};
+ghost use Rattle.store_definitions.specs.Preview.{shown, previewWritten};
+ghost use Rattle.row_readings.specs.Previews.{Shown};
 use placement_rows::copy_from;
 use placement_rows::move_window;
 use store_definitions::Done;
@@ -41,7 +42,7 @@ pub fn shingled_point_unchecked(
     out: &mut [FloatBits],
 ) -> Done
     requires { ⌜ (Shingled s) × (s .dimensions ≤ length (now «last_known_shingle»)) ⌝ }
-    ensures { λ r. ⌜ output (doneMeans r) (now (out .exit)) ≡ checkedPreview s (now («last_known_shingle» .entry)) (now (point .entry)) (now (out .entry)) ⌝ }
+    ensures { λ r. ⌜ output (doneMeans r) (now (out .exit)) ≡ previewWritten s (now («last_known_shingle» .entry)) (now (point .entry)) (now (out .entry)) ⌝ }
 {
     let dimensions = s.dimensions;
     if out.len() != dimensions {

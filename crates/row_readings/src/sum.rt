@@ -15,10 +15,10 @@ ghost use Rattle.float_bits.specs.Words.{floatOf, plusZero};
 ghost use Rattle.interval_store_manager.specs.Calls.{decisionMeans};
 ghost use Rattle.store_counts.specs.Tables.{countsAlone};
 ghost use Rattle.store_definitions.specs.Answers.{doneMeans, output};
-ghost use Rattle.store_definitions.specs.Memory.{pointStore};
+ghost use Rattle.store_definitions.specs.Memory.{pointStore, rowsAlone};
 ghost use Rattle.store_definitions.specs.Sums.{itemsDecided, storedRow, summed};
 ghost use Rattle.store_rows.specs.Copying.{Readable};
-ghost use Rattle.row_readings.specs.Items.{weighted, weightings, rowsAlone, Addable, AllAddable, checkedSum};
+ghost use Rattle.row_readings.specs.Items.{weighted, weightings, Addable, AllAddable, checkedSum};
 
 // Document 01: 'weight above 16,777,216'. Up to it a weight's float is the weight itself.
 const LARGEST_WEIGHT: usize = 16_777_216;
@@ -72,7 +72,7 @@ pub fn add_item(
     out: &mut [f32],
 )
     requires { ⌜ (length (now out) ≡ s .dimensions) × Addable s (length (now store)) (now location) (weighted index weight) ⌝ }
-    ensures { λ _. ⌜ now (out .exit) ≡ addScaled weight (now (out .entry)) (storedRow (pointStore s (rowsAlone (now (store .entry)) (now (location .entry)))) index) ⌝ }
+    ensures { λ _. ⌜ now (out .exit) ≡ addScaled weight (now (out .entry)) (storedRow (pointStore s (rowsAlone (now (store .entry)) [] (now (location .entry)))) index) ⌝ }
 {
     let dimensions = s.dimensions;
     let base = dimensions / s.shingle_size;
@@ -84,7 +84,7 @@ pub fn add_item(
 
 fn add_items(s: Store, store: &[FloatBits], location: &[u16], items: &[[usize; 2]], out: &mut [f32])
     requires { ⌜ (length (now out) ≡ s .dimensions) × AllAddable s (length (now store)) (now location) (now items) ⌝ }
-    ensures { λ _. ⌜ now (out .exit) ≡ summed addScaled (pointStore s (rowsAlone (now (store .entry)) (now (location .entry)))) (weightings (now (items .entry))) (now (out .entry)) ⌝ }
+    ensures { λ _. ⌜ now (out .exit) ≡ summed addScaled (pointStore s (rowsAlone (now (store .entry)) [] (now (location .entry)))) (weightings (now (items .entry))) (now (out .entry)) ⌝ }
 {
     let mut i = 0;
     while i < items.len() {

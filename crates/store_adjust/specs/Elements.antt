@@ -10,7 +10,7 @@ use Rattle.store_definitions.specs.declared.Store.{Store}
 use Rattle.store_definitions.specs.Memory.{Memory, PointStore, pointStore}
 use Rattle.store_definitions.specs.Answers.{Outcome}
 use Rattle.store_definitions.specs.Decisions.{andThen, formDecided, live, touchDecided}
-use Rattle.store_definitions.specs.Counting.{Pairing, incTest, decTest, incremented, decremented, pairDecided, pairDone, pairCarriedOut, adjustFrom, adjustSpec}
+use Rattle.store_definitions.specs.Counting.{Pairing, incTest, decTest, incremented, decremented, pairDecided, pairDone, unlessRefused, adjustFrom, adjustSpec}
 use Rattle.store_check.specs.CheckLaws.{elementless}
 use Rattle.store_counts.specs.Elements.{refilled, refilledOutcome, branch-refilled, inc-refilled, dec-refilled, form-same}
 
@@ -54,7 +54,7 @@ module _ {E F : Type 0} (store window : List F) where
         ∙ ap (λ (x : PointStore F). decremented x (q .deleteIndex) (q .deleteLabel)) inc-fill)
 
     module _ (n : ℕ) (qs : List Pairing) (rest : (x : PointStore E) → filled (adjustFrom n qs x) ≡ adjustFrom n qs (fill x)) where
-      pair-refilled : (b : Bool) (k : ℕ) (d : Decided) → filled (cond b (adjustFrom n qs p) (pairCarriedOut d p k (adjustFrom n qs) (pairDone p q))) ≡ cond b (adjustFrom n qs (fill p)) (pairCarriedOut d (fill p) k (adjustFrom n qs) (pairDone (fill p) q))
+      pair-refilled : (b : Bool) (k : ℕ) (d : Decided) → filled (cond b (adjustFrom n qs p) (unlessRefused d k p (adjustFrom n qs (pairDone p q)))) ≡ cond b (adjustFrom n qs (fill p)) (unlessRefused d k (fill p) (adjustFrom n qs (pairDone (fill p) q)))
       pair-refilled true k d = rest p
       pair-refilled false k go = rest (pairDone p q) ∙ ap (λ (x : PointStore F). adjustFrom n qs x) done-refilled
       pair-refilled false k (refuse j) = refl
@@ -64,7 +64,7 @@ module _ {E F : Type 0} (store window : List F) where
   from-refilled n [] p = refl
   from-refilled n (q ∷ qs) p =
       pair-refilled p q (suc n) qs (λ x. from-refilled (suc n) qs x) (eqb (q .insertIndex) none) n (pairDecided p q)
-      ∙ sym (ap (λ (d : Decided). cond (eqb (q .insertIndex) none) (adjustFrom (suc n) qs (fill p)) (pairCarriedOut d (fill p) n (adjustFrom (suc n) qs) (pairDone (fill p) q)))
+      ∙ sym (ap (λ (d : Decided). cond (eqb (q .insertIndex) none) (adjustFrom (suc n) qs (fill p)) (unlessRefused d n (fill p) (adjustFrom (suc n) qs (pairDone (fill p) q))))
       (decided-refilled p q))
 
 module _ {F : Type 0} (s : Store) (m : Memory F) (qs : List Pairing) where
@@ -74,7 +74,7 @@ module _ {F : Type 0} (s : Store) (m : Memory F) (qs : List Pairing) where
   abbrev whole : PointStore F
   whole = pointStore s m
 
-  carried : (d : Decided) → refilledOutcome (m .store) (m .lastKnownShingle) (pairCarriedOut d bare 0 (adjustFrom 0 qs) bare) ≡ pairCarriedOut d whole 0 (adjustFrom 0 qs) whole
+  carried : (d : Decided) → refilledOutcome (m .store) (m .lastKnownShingle) (unlessRefused d 0 bare (adjustFrom 0 qs bare)) ≡ unlessRefused d 0 whole (adjustFrom 0 qs whole)
   carried go = from-refilled (m .store) (m .lastKnownShingle) 0 qs bare
   carried (refuse n) = refl
 
@@ -82,4 +82,4 @@ module _ {F : Type 0} (s : Store) (m : Memory F) (qs : List Pairing) where
   unfolding adjustSpec
   adjust-same =
       carried (formDecided bare)
-      ∙ ap (λ (d : Decided). pairCarriedOut d whole 0 (adjustFrom 0 qs) whole) (form-same s m)
+      ∙ ap (λ (d : Decided). unlessRefused d 0 whole (adjustFrom 0 qs whole)) (form-same s m)

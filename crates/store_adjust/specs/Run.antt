@@ -13,7 +13,7 @@ use Rattle.labels.specs.Decisions.{none}
 use Rattle.store_definitions.specs.Memory.{Memory, PointStore}
 use Rattle.store_definitions.specs.Answers.{done, refused, refusedAfter, Outcome, outcome}
 use Rattle.store_definitions.specs.Decisions.{carriedOut}
-use Rattle.store_definitions.specs.Counting.{Pairing, pairDecided, pairDone, pairCarriedOut, adjustFrom, adjustSpec}
+use Rattle.store_definitions.specs.Counting.{Pairing, pairDecided, pairDone, unlessRefused, adjustFrom, adjustSpec}
 use Rattle.store_definitions.specs.WellFormed.{wellFormed}
 use Rattle.store_counts.specs.ReadingLaws.{well}
 use Rattle.store_adjust.specs.Pairs.{pairing, pairings, pairSpec}
@@ -24,7 +24,7 @@ module _ {E : Type 0} (p : PointStore E) (q : Pairing) (qs : List Pairing) (n : 
   unfolding adjustFrom pairSpec
   next-pair a = split (eqb (q .insertIndex) none) (pairDecided p q) e
     where
-      split : (b : Bool) (d : Decided) → o ≡ cond b (outcome done p) (carriedOut d p (outcome done (pairDone p q))) → cond b (adjustFrom (suc n) qs p) (pairCarriedOut d p n (adjustFrom (suc n) qs) (pairDone p q)) ≡ adjustFrom (suc n) qs (o .after)
+      split : (b : Bool) (d : Decided) → o ≡ cond b (outcome done p) (carriedOut d p (outcome done (pairDone p q))) → cond b (adjustFrom (suc n) qs p) (unlessRefused d n p (adjustFrom (suc n) qs (pairDone p q))) ≡ adjustFrom (suc n) qs (o .after)
       split true d f = ap (λ (x : Outcome E). adjustFrom (suc n) qs (x .after)) (sym f)
       split false go f = ap (λ (x : Outcome E). adjustFrom (suc n) qs (x .after)) (sym f)
       split false (refuse k) f =
@@ -35,7 +35,7 @@ module _ {E : Type 0} (p : PointStore E) (q : Pairing) (qs : List Pairing) (n : 
   unfolding adjustFrom pairSpec
   last-pair k a = split (eqb (q .insertIndex) none) (pairDecided p q) e
     where
-      split : (b : Bool) (d : Decided) → o ≡ cond b (outcome done p) (carriedOut d p (outcome done (pairDone p q))) → cond b (adjustFrom (suc n) qs p) (pairCarriedOut d p n (adjustFrom (suc n) qs) (pairDone p q)) ≡ outcome (refusedAfter k n) (o .after)
+      split : (b : Bool) (d : Decided) → o ≡ cond b (outcome done p) (carriedOut d p (outcome done (pairDone p q))) → cond b (adjustFrom (suc n) qs p) (unlessRefused d n p (adjustFrom (suc n) qs (pairDone p q))) ≡ outcome (refusedAfter k n) (o .after)
       split true d f =
           let x : done ≡ refused k = sym (ap (λ (x : Outcome E). x .answer) f) ∙ a in
           absurd (let z : _≡_ {A = ℕ} 0 1 = cc in omega arith)

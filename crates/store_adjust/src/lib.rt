@@ -22,7 +22,7 @@ use store_definitions::Store;
 use terms::Refusal;
 
 // For callers that have checked the store. Of the elements only the lengths are known.
-pub fn adjust_well_formed(
+pub fn adjust_unchecked(
     s: Store,
     floats: usize,
     window: usize,
@@ -127,7 +127,7 @@ pub fn adjust_plain(
     );
     let well = checked.ok;
     if well {
-        return adjust_well_formed(
+        return adjust_unchecked(
             s,
             store.len(),
             last_known_shingle.len(),

@@ -12,7 +12,7 @@ use Rattle.store_definitions.specs.declared.Store.{Store}
 use Rattle.store_definitions.specs.Memory.{Memory, PointStore, pointStore}
 use Rattle.store_definitions.specs.Answers.{Answer, done, doneMeans, adjustedMeans, Outcome, outcome}
 use Rattle.store_definitions.specs.Decisions.{carriedOut}
-use Rattle.store_definitions.specs.Counting.{Pairing, pairDecided, pairDone, pairCarriedOut, adjustFrom, adjustSpec}
+use Rattle.store_definitions.specs.Counting.{Pairing, pairDecided, pairDone, unlessRefused, adjustFrom, adjustSpec}
 use Rattle.store_definitions.specs.WellFormed.{wellFormed}
 use Rattle.store_check.specs.CheckLaws.{elementless}
 use Rattle.store_counts.specs.Elements.{refilled, refilledOutcome}
@@ -33,7 +33,7 @@ module _ {E : Type 0} (p : PointStore E) (q : Pairing) (n : ℕ) where
   unfolding adjustFrom pairSpec
   told o e = split (eqb (q .insertIndex) none) (pairDecided p q) e
     where
-      split : (b : Bool) (d : Decided) → o ≡ cond b (outcome done p) (carriedOut d p (outcome done (pairDone p q))) → outcome (afterPairs n (o .answer)) (o .after) ≡ cond b (outcome done p) (pairCarriedOut d p n (adjustFrom (suc n) []) (pairDone p q))
+      split : (b : Bool) (d : Decided) → o ≡ cond b (outcome done p) (carriedOut d p (outcome done (pairDone p q))) → outcome (afterPairs n (o .answer)) (o .after) ≡ cond b (outcome done p) (unlessRefused d n p (adjustFrom (suc n) [] (pairDone p q)))
       split true d f = ap (λ (x : Outcome E). outcome (afterPairs n (x .answer)) (x .after)) f
       split false go f = ap (λ (x : Outcome E). outcome (afterPairs n (x .answer)) (x .after)) f
       split false (refuse k) f = ap (λ (x : Outcome E). outcome (afterPairs n (x .answer)) (x .after)) f
@@ -45,7 +45,7 @@ module _ {E : Type 0} (p : PointStore E) (q : Pairing) (n : ℕ) where
   unfolding adjustFrom
   one-done a = split (eqb (q .insertIndex) none) (pairDecided p q) a
     where
-      split : (b : Bool) (d : Decided) → accepted (cond b (outcome done p) (pairCarriedOut d p n (adjustFrom (suc n) []) (pairDone p q)) .answer) ≡ true → cond b (outcome done p) (pairCarriedOut d p n (adjustFrom (suc n) []) (pairDone p q)) .answer ≡ done
+      split : (b : Bool) (d : Decided) → accepted (cond b (outcome done p) (unlessRefused d n p (adjustFrom (suc n) [] (pairDone p q))) .answer) ≡ true → cond b (outcome done p) (unlessRefused d n p (adjustFrom (suc n) [] (pairDone p q))) .answer ≡ done
       split true d f = refl
       split false go f = refl
       split false (refuse k) f = absurd (false≢true f)
@@ -56,7 +56,7 @@ module _ {E : Type 0} (p : PointStore E) (q : Pairing) (n : ℕ) where
     unfolding adjustFrom
     one-goes-on a = split (eqb (q .insertIndex) none) (pairDecided p q) a
       where
-        split : (b : Bool) (d : Decided) → accepted (cond b (outcome done p) (pairCarriedOut d p n (adjustFrom (suc n) []) (pairDone p q)) .answer) ≡ true → cond b (adjustFrom (suc n) qs p) (pairCarriedOut d p n (adjustFrom (suc n) qs) (pairDone p q)) ≡ adjustFrom (suc n) qs (cond b (outcome done p) (pairCarriedOut d p n (adjustFrom (suc n) []) (pairDone p q)) .after)
+        split : (b : Bool) (d : Decided) → accepted (cond b (outcome done p) (unlessRefused d n p (adjustFrom (suc n) [] (pairDone p q))) .answer) ≡ true → cond b (adjustFrom (suc n) qs p) (unlessRefused d n p (adjustFrom (suc n) qs (pairDone p q))) ≡ adjustFrom (suc n) qs (cond b (outcome done p) (unlessRefused d n p (adjustFrom (suc n) [] (pairDone p q))) .after)
         split true d f = refl
         split false go f = refl
         split false (refuse k) f = absurd (false≢true f)
@@ -65,7 +65,7 @@ module _ {E : Type 0} (p : PointStore E) (q : Pairing) (n : ℕ) where
     unfolding adjustFrom
     one-ends a = split (eqb (q .insertIndex) none) (pairDecided p q) a
       where
-        split : (b : Bool) (d : Decided) → accepted (cond b (outcome done p) (pairCarriedOut d p n (adjustFrom (suc n) []) (pairDone p q)) .answer) ≡ false → cond b (adjustFrom (suc n) qs p) (pairCarriedOut d p n (adjustFrom (suc n) qs) (pairDone p q)) ≡ cond b (outcome done p) (pairCarriedOut d p n (adjustFrom (suc n) []) (pairDone p q))
+        split : (b : Bool) (d : Decided) → accepted (cond b (outcome done p) (unlessRefused d n p (adjustFrom (suc n) [] (pairDone p q))) .answer) ≡ false → cond b (adjustFrom (suc n) qs p) (unlessRefused d n p (adjustFrom (suc n) qs (pairDone p q))) ≡ cond b (outcome done p) (unlessRefused d n p (adjustFrom (suc n) [] (pairDone p q)))
         split true d f = absurd (true≢false f)
         split false go f = absurd (true≢false f)
         split false (refuse k) f = refl

@@ -12,11 +12,11 @@ use Rattle.terms.specs.Entries.{any-default}
 use Rattle.interval_store_manager.specs.Intervals.{isFree, freeNumber}
 use Rattle.interval_store_manager.specs.Marks.{Marks}
 use Rattle.interval_store_manager.specs.WellFormed as manager
-use Rattle.labels.specs.Counted.{countedWell}
+use Rattle.labels.specs.Counted.{managed, freeUncounted}
 use Rattle.label_check.specs.LabelPass.{every-same}
 use Rattle.store_definitions.specs.declared.Store.{Store}
 use Rattle.store_definitions.specs.Parts.{baseOf, tableLength}
-use Rattle.store_definitions.specs.WellFormed.{placesDistinct, placesEnd}
+use Rattle.store_definitions.specs.WellFormed.{emptyUncounted, placesDistinct, placesEnd}
 use Rattle.store_laws.specs.BoundsLaws.{in-bounds, base-some}
 use Rattle.store_check.specs.Entries.{placeLimit, entryWell, entriesWell, countsLive, PlacesBelow}
 use Rattle.store_check.specs.PointsTest.{pointsTest, PointsReady}
@@ -76,21 +76,21 @@ module _ (s : Store) (counts location starts ends marks : List ℕ) (r : PointsR
       ))
       ∙ (every-and n freeTest (λ i. emptyTest i && endTest i) ∙ ap (λ (b : Bool). everyBelow n freeTest && b) (every-and n emptyTest endTest))
 
-  regroup : (a b c d : Bool) → (a && (b && c) && d) ≡ (true && (true && (true && a)) && (b && (d && c)))
+  regroup : (a b c d : Bool) → (a && (b && c) && d) ≡ (true && true && (a && (b && (d && c))))
   regroup true true true d = sym (and-true d)
   regroup true true false d = sym (and-false d)
   regroup true false c d = refl
   regroup false b c d = refl
 
   pub table-is : manager.wellFormed (s .«index_manager») starts ends ≡ true → Marks (s .«index_manager» .last_in_use) starts ends marks → (entriesWell n limit marks counts location && placesDistinct n location) ≡ pointsTest s counts location starts ends
-  unfolding pointsTest countedWell placesEnd freeTest emptyTest endTest
+  unfolding pointsTest managed freeUncounted emptyUncounted placesEnd freeTest emptyTest endTest
   table-is w m =
       ap (λ (b : Bool). b && placesDistinct n location) (entries-are m)
       ∙ (regroup (everyBelow n freeTest) (everyBelow n emptyTest) (everyBelow n endTest) (placesDistinct n location)
-      ∙ rw (w, eq-eqb n n refl, le-leb n (length counts) (omega (arith, r .counts-lent, r .table-within))))
+      ∙ rw (w, eq-eqb n n refl))
 
   pub table-fails : manager.wellFormed (s .«index_manager») starts ends ≡ false → false ≡ pointsTest s counts location starts ends
-  unfolding pointsTest countedWell
+  unfolding pointsTest managed
   table-fails w = rw w
 
   entry-at : entriesWell n limit marks counts location ≡ true → (i : ℕ) → i < n → entryWell limit (getD marks i 0) (getD counts i 0) (getD location i 0) ≡ true

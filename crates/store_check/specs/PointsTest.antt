@@ -1,28 +1,21 @@
 -- The points' half of well-formedness over the lists that it reads, and what the pass over them relies on.
 use Prim.Native.Nat.{ℕ, _≤_}
 use mathlib.Core.List.{List}
-use mathlib.Core.Bool.{Bool, true, _&&_, Bool·beq}
-use mathlib.Core.Path.{_≡_, refl}
-use lib.ListN.{length, getD}
-use lib.Dec.{eqb}
-use Rattle.terms.specs.Below.{everyBelow}
-use Rattle.labels.specs.Counted.{counted, countedWell}
+use mathlib.Core.Bool.{Bool, true, _&&_}
+use mathlib.Core.Path.{_≡_}
+use lib.ListN.{length}
+use Rattle.labels.specs.Counted.{counted, managed, freeUncounted}
 use Rattle.store_definitions.specs.declared.Store.{Store}
-use Rattle.store_definitions.specs.Memory.{PointStore}
 use Rattle.store_definitions.specs.Parts.{tableLength}
 use Rattle.store_definitions.specs.Bounds.{boundsHold}
-use Rattle.store_definitions.specs.WellFormed.{placesDistinct, placesEnd, pointsWell}
+use Rattle.store_definitions.specs.WellFormed.{emptyUncounted, placesDistinct, placesEnd}
 
+-- the clauses in the order in which the check asks them
 unfoldable pub pointsTest : Store → (counts location starts ends : List ℕ) → Bool
 pointsTest s counts location starts ends =
     let n = tableLength s in
-    countedWell n (counted (s .«index_manager») counts starts ends)
-    && (everyBelow n (λ i. Bool·beq (eqb (getD counts i 0) 0) (eqb (getD location i 65535) 65535))
-    && (placesDistinct n location && placesEnd n s location))
-
-pub points-test : {E : Type 0} (p : PointStore E) → pointsWell p ≡ pointsTest (p .header) (p .memory .referenceCount) (p .memory .location) (p .memory .indexStarts) (p .memory .indexEnds)
-unfolding pointsWell pointsTest
-points-test p = refl
+    let t = counted (s .«index_manager») counts starts ends in
+    managed n t && (freeUncounted n t && (emptyUncounted n counts location && (placesDistinct n location && placesEnd n s location)))
 
 -- what is known before the pass: bounds, lengths, a free start within the floats
 pub record PointsReady (s : Store) (counts location : List ℕ) : Type 0 where

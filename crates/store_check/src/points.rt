@@ -4,6 +4,7 @@ ghost use Prim.Native.Nat.{_≤_, _<_};
 ghost use lib.ListN.{length};
 ghost use Rattle.store_definitions.specs.WellFormed.{placesDistinct};
 ghost use Rattle.store_check.specs.Entries.{placeLimit, entryWell, entriesWell, placeMet, placeMarked, NoneMarked, PlacesBelow};
+use terms::EMPTY_PLACE;
 
 // The first place whose row would end past the free start: a row ends by it exactly where its place is below the limit.
 pub fn place_limit(base: usize, dims: usize, free: usize) -> u16
@@ -22,7 +23,7 @@ fn entry_well(limit: u16, mark: u8, count: u16, place: u16) -> bool
 {
     let freed = mark == 1;
     let dead = count == 0;
-    let empty = place == 65535;
+    let empty = place == EMPTY_PLACE;
     let low = place < limit;
     (freed == dead) & ((dead == empty) & (empty | low))
 }
@@ -53,7 +54,7 @@ fn mark_place(place: u16, marks: &mut [bool]) -> bool
     requires { ⌜ ((place ≡ 65535 → ⊥) → place < length (now marks)) ⌝ }
     ensures { λ r. ⌜ (r ≡ placeMet place (now (marks .entry))) × (now (marks .exit) ≡ placeMarked place (now (marks .entry))) ⌝ }
 {
-    if place == 65535 {
+    if place == EMPTY_PLACE {
         return false;
     }
     let at = place as usize;

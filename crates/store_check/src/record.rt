@@ -5,6 +5,9 @@ use crate::bounds::bounds_hold;
 use crate::bounds::free_start_well;
 use store_definitions::Store;
 
+// Every `u32` is at most this; the clause stands with the others, and the compiler leaves it out.
+const LAST_SEQUENCE: u32 = 4294967295;
+
 // How many entries the lent slices of the rows and of the points have.
 pub struct Lengths {
     pub floats: usize,
@@ -46,7 +49,8 @@ pub fn record_well(s: Store, lent: Lengths) -> bool
         if capacity * dimensions < s.store_length {
             return false;
         }
-        return free_start_well(s);
+        let started = free_start_well(s);
+        return (s.next_sequence_index <= LAST_SEQUENCE) & started;
     }
     false
 }

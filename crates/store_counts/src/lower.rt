@@ -23,12 +23,10 @@ use store_check::check;
 use store_definitions::Done;
 use store_definitions::DoneResult;
 use store_definitions::Store;
+use terms::EMPTY_PLACE;
 use terms::LabelIndex;
 use terms::PointIndex;
 use terms::Refusal;
-
-// Document 01's empty place.
-const EMPTY_PLACE: u16 = 65535;
 
 // One count less of a point; at 0 its index is released and its place emptied.
 fn lower_point(
@@ -118,7 +116,7 @@ pub fn dec_accepted(
 }
 
 // The same for callers that have checked the store.
-pub fn dec_well_formed(
+pub fn dec_unchecked(
     s: Store,
     floats: usize,
     window: usize,
@@ -218,7 +216,7 @@ pub fn dec(
     );
     let well = checked.ok;
     if well {
-        return dec_well_formed(
+        return dec_unchecked(
             s,
             store.len(),
             last_known_shingle.len(),

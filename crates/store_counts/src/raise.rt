@@ -75,7 +75,7 @@ pub fn inc_accepted(
 }
 
 // The same for callers that have checked the store.
-pub fn inc_well_formed(
+pub fn inc_unchecked(
     s: Store,
     floats: usize,
     window: usize,
@@ -175,7 +175,7 @@ pub fn inc(
     );
     let well = checked.ok;
     if well {
-        return inc_well_formed(
+        return inc_unchecked(
             s,
             store.len(),
             last_known_shingle.len(),

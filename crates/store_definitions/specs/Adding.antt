@@ -129,28 +129,31 @@ module _ {E : Type 0} (eq : E → E → Bool) where
   unfoldable pub laidHow : Store → Rows E → List E → Laid
   laidHow s r row = laidAs (s .dimensions) (baseOf s) (joins s r row) (r .free)
 
-module _ {E : Type 0} (eq : E → E → Bool) (zeroElement : E) where
-  -- a kept add for which there is room: label, index with growth, window and sequence, row
-  unfoldable pub keptAfter : PointStore E → List E → ℕ → PointStore E
-  keptAfter p point code =
+  -- a kept add whose row fits rows r, in document 01's order but for the index, which gets its place once the row is laid: slot and
+  -- label index; sequence and window; the row; the table, grown where no index is free; the index
+  unfoldable pub keptAfter : Rows E → List E → PointStore E → List E → ℕ → PointStore E
+  keptAfter r row p point code =
       let s = p .header in
-      let row = rowOf p point in
-      let r = roomMade zeroElement s (rowsOf p) in
-      let laid = withRows (laidRows eq s r row) (sequenced (labelled p code) point) in
-      placed (tableGrown laid) (placeOf (laidHow eq s r row))
+      let taken = labelled p code in
+      let moved = sequenced taken point in
+      let laid = withRows (laidRows s r row) moved in
+      let ready = tableGrown laid in
+      placed ready (placeOf (laidHow s r row))
 
+module _ {E : Type 0} where
   -- the index given: the next one, after growth of the table
   unfoldable pub indexGiven : PointStore E → ℕ
   indexGiven p = nextIndex (pointTable (tableGrown p))
 
-  -- '10 leaves floats, places, free start and store length as compaction and growth made them'
+module _ {E : Type 0} (eq : E → E → Bool) (zeroElement : E) where
+  -- room is made for the row. '10 leaves floats, places, free start and store length as compaction and growth made them'
   unfoldable pub keeps : PointStore E → List E → ℕ → Outcome E
   keeps p point code =
       let s = p .header in
       let row = rowOf p point in
       let r = roomMade zeroElement s (rowsOf p) in
       cond (overflows eq s r row) (outcome (refused 10) (withRows r p))
-      (outcome (kept (indexGiven p) (labelGiven p) (laidHow eq s r row)) (keptAfter p point code))
+      (outcome (kept (indexGiven p) (labelGiven p) (laidHow eq s r row)) (keptAfter eq r row p point code))
 
   abbrev pub addCarriedOut : AddDecided → PointStore E → List E → ℕ → Outcome E
   addCarriedOut keep p point code = keeps p point code

@@ -70,19 +70,20 @@ module _ {E : Type 0} where
       let r = incremented p (q .insertIndex) (q .insertLabel) in
       cond (eqb (q .deleteIndex) none) r (decremented r (q .deleteIndex) (q .deleteLabel))
 
-  -- 'Insert index none: the pair is skipped.' 'A refused pair changes nothing and ends the call.' `before` pairs stand before
-  abbrev pub pairCarriedOut : Decided → PointStore E → ℕ → (PointStore E → Outcome E) → PointStore E → Outcome E
-  pairCarriedOut go p before rest r = rest r
-  pairCarriedOut (refuse n) p before rest r = outcome (refusedAfter n before) p
+  -- a refusal ends the call with how many pairs stand before it, the store as they left it
+  abbrev pub unlessRefused : Decided → ℕ → PointStore E → Outcome E → Outcome E
+  unlessRefused go before p o = o
+  unlessRefused (refuse n) before p o = outcome (refusedAfter n before) p
 
+  -- a pair is skipped ('Insert index none'), refused ('changes nothing and ends the call'), or carried out, and the list goes on
   unfoldable pub adjustFrom : ℕ → List Pairing → PointStore E → Outcome E
   adjustFrom before [] p = outcome done p
   adjustFrom before (q ∷ qs) p =
       cond (eqb (q .insertIndex) none) (adjustFrom (suc before) qs p)
-      (pairCarriedOut (pairDecided p q) p before (adjustFrom (suc before) qs) (pairDone p q))
+      (unlessRefused (pairDecided p q) before p (adjustFrom (suc before) qs (pairDone p q)))
 
   unfoldable pub adjustSpec : PointStore E → List Pairing → Outcome E
-  adjustSpec p qs = pairCarriedOut (formDecided p) p 0 (adjustFrom 0 qs) p
+  adjustSpec p qs = unlessRefused (formDecided p) 0 p (adjustFrom 0 qs p)
 
   -- 'count 5'
   unfoldable pub countSpec : PointStore E → ℕ → Answer

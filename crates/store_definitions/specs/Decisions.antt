@@ -29,6 +29,15 @@ abbrev pub writes : {X : Type 0} → Decided → List X → List X → Output X
 writes go out new = output done new
 writes (refuse n) out new = output (refused n) out
 
+-- what follows the check of a reading: its answer, or its answer with the output
+abbrev pub thenAnswer : Decided → Answer → Answer
+thenAnswer go a = a
+thenAnswer (refuse n) a = refused n
+
+abbrev pub thenOutput : {X : Type 0} → Decided → List X → Output X → Output X
+thenOutput go out o = o
+thenOutput (refuse n) out o = output (refused n) out
+
 module _ {E : Type 0} where
   -- a decision carried out: a refused call changes nothing
   abbrev pub carriedOut : Decided → PointStore E → Outcome E → Outcome E

@@ -9,7 +9,7 @@ use Rattle.store_definitions.specs.declared.Store.{Store}
 use Rattle.store_definitions.specs.Memory.{PointStore}
 use Rattle.store_definitions.specs.Answers.{Output}
 use Rattle.store_definitions.specs.Parts.{baseOf, extraOf}
-use Rattle.store_definitions.specs.Decisions.{andThen, refuseIf, formDecided, writes}
+use Rattle.store_definitions.specs.Decisions.{andThen, refuseIf, formDecided, writes, thenOutput}
 
 -- 'values below dimensions unchanged without internal shingling; with it, values below base ..'
 unfoldable pub valueLimit : Store → ℕ
@@ -33,18 +33,25 @@ unfoldable pub upTo : ℕ → List ℕ → List ℕ
 upTo zero rest = rest
 upTo (suc n) rest = upTo n (n ∷ rest)
 
-module _ {E : Type 0} where
-  -- 'index lists 3, then the first bad value or look-ahead 11'
-  unfoldable pub indexListDecided : PointStore E → ℕ → List ℕ → ℕ → Decided
-  indexListDecided p lookAhead values out =
-      andThen (formDecided p)
-      (andThen (refuseIf (not (eqb out (length values))) 3)
-      (refuseIf (ltb 65535 lookAhead || not (valuesBelow (valueLimit (p .header)) values)) 11))
+-- 'index lists 3, then the first bad value or look-ahead 11'
+unfoldable pub indexListDecided : Store → ℕ → List ℕ → ℕ → Decided
+indexListDecided s lookAhead values out =
+    andThen (refuseIf (not (eqb out (length values))) 3)
+    (refuseIf (ltb 65535 lookAhead || not (valuesBelow (valueLimit s) values)) 11)
 
+-- the lists of a store that is checked
+unfoldable pub indicesWritten : Store → ℕ → (values out : List ℕ) → Output ℕ
+indicesWritten s lookAhead values out =
+    writes (indexListDecided s lookAhead values (length out)) out (map (indexOf s lookAhead) values)
+
+-- 'next_indices does so for 0 to base − 1.'
+abbrev pub nextValues : Store → List ℕ
+nextValues s = upTo (baseOf s) []
+
+module _ {E : Type 0} where
   unfoldable pub missingIndicesSpec : PointStore E → ℕ → List ℕ → List ℕ → Output ℕ
   missingIndicesSpec p lookAhead values out =
-      writes (indexListDecided p lookAhead values (length out)) out (map (indexOf (p .header) lookAhead) values)
+      thenOutput (formDecided p) out (indicesWritten (p .header) lookAhead values out)
 
-  -- 'next_indices does so for 0 to base − 1.'
   unfoldable pub nextIndicesSpec : PointStore E → ℕ → List ℕ → Output ℕ
-  nextIndicesSpec p lookAhead out = missingIndicesSpec p lookAhead (upTo (baseOf (p .header)) []) out
+  nextIndicesSpec p lookAhead out = missingIndicesSpec p lookAhead (nextValues (p .header)) out

@@ -1,7 +1,7 @@
 -- Document 01, 'Lists': 'A store is record and lent memory'. The memory is one list for each lent slice, under the Rust's
 -- names; the element of the rows is a parameter.
 use Prim.Native.Nat.{ℕ}
-use mathlib.Core.List.{List}
+use mathlib.Core.List.{List, []}
 use Rattle.store_definitions.specs.declared.Store.{Store}
 
 pub record Memory (E : Type 0) : Type 0 where
@@ -28,3 +28,24 @@ pub record PointStore (E : Type 0) : Type 0 where
 
 abbrev pub pointStore : {E : Type 0} → Store → Memory E → PointStore E
 pointStore s m = record { header = s; memory = m }
+
+-- the memory of which a reading of rows sees these: elements, counts and places
+abbrev pub rowsAlone : {E : Type 0} → (elements : List E) → (counts location : List ℕ) → Memory E
+rowsAlone elements counts location =
+    record {
+      store = elements;
+      lastKnownShingle = [];
+      referenceCount = counts;
+      location = location;
+      indexStarts = [];
+      indexEnds = [];
+      labels = [];
+      labelAttributes = [];
+      labelCount = [];
+      labelStarts = [];
+      labelEnds = [];
+      attributes = [];
+      attributeCount = [];
+      attributeStarts = [];
+      attributeEnds = [];
+    }

@@ -1,15 +1,17 @@
 -- Document 01, 'Opening'.
 use Prim.Native.Nat.{ℕ, _*_, _-_}
-use mathlib.Core.Bool.{cond, _&&_}
+use mathlib.Core.Bool.{false, cond, _&&_}
 use mathlib.Core.List.{List, _++_}
 use lib.ListN.{drop, replicate, set}
 use Rattle.interval_store_manager.specs.Calls.{Decided, go, refuse, manager}
 use Rattle.labels.specs.Opening.{labelsOpened}
 use Rattle.store_definitions.specs.declared.Store.{Store}
 use Rattle.store_definitions.specs.declared.Shape.{Shape}
-use Rattle.store_definitions.specs.Memory.{Memory, PointStore}
+use Rattle.store_definitions.specs.Memory.{Memory, PointStore, pointStore}
+use Rattle.store_definitions.specs.Answers.{done, Outcome, outcome}
 use Rattle.store_definitions.specs.Bounds.{boundsHold, startAllowed, lentEnough}
 use Rattle.store_definitions.specs.Parts.{labelHalf, withLabels}
+use Rattle.store_definitions.specs.Decisions.{carriedOut}
 
 -- 'Opening checks 2, 1.'
 unfoldable pub openDecided : {E : Type 0} → Shape → Memory E → Decided
@@ -34,6 +36,24 @@ freshRecord h =
       «index_manager» = manager (h .«initial_capacity») 1;
       «label_manager» = manager (h .capacity) 1;
       «attribute_manager» = manager (h .capacity) 1;
+    }
+
+-- the record of zeros, where there is no store: it is ill-formed
+abbrev pub noRecord : Store
+noRecord =
+    record {
+      dimensions = 0;
+      «shingle_size» = 0;
+      capacity = 0;
+      «internal_shingling» = false;
+      «internal_rotation» = false;
+      «store_labels» = false;
+      «store_length» = 0;
+      «start_free_region» = 0;
+      «next_sequence_index» = 0;
+      «index_manager» = manager 0 0;
+      «label_manager» = manager 0 0;
+      «attribute_manager» = manager 0 0;
     }
 
 -- the first n entries made x; a longer slice keeps its rest
@@ -67,15 +87,7 @@ module _ {E : Type 0} (zeroElement : E) where
       let p : PointStore E = record { header = freshRecord h; memory = openedMemory h m } in
       cond (h .«store_labels») (withLabels (labelsOpened (h .capacity) (labelHalf p)) p) p
 
--- what opening gives: a store, or a refusal and the memory as it was
-pub data OpenOutcome (E : Type 0) : Type 0 where
-  opens : PointStore E → OpenOutcome E
-  refuses : ℕ → Memory E → OpenOutcome E
-
 module _ {E : Type 0} (zeroElement : E) where
-  abbrev pub openCarriedOut : Decided → Shape → Memory E → OpenOutcome E
-  openCarriedOut go h m = opens (opened zeroElement h m)
-  openCarriedOut (refuse n) h m = refuses n m
-
-  unfoldable pub openSpec : Shape → Memory E → OpenOutcome E
-  openSpec h m = openCarriedOut (openDecided h m) h m
+  -- a refused opening gives the record of zeros, and the memory as it was
+  unfoldable pub openSpec : Shape → Memory E → Outcome E
+  openSpec h m = carriedOut (openDecided h m) (pointStore noRecord m) (outcome done (opened zeroElement h m))

@@ -12,7 +12,7 @@ use Rattle.store_definitions.specs.declared.Store.{Store}
 use Rattle.store_definitions.specs.Memory.{PointStore}
 use Rattle.store_definitions.specs.Answers.{done, Outcome, outcome, Output}
 use Rattle.store_definitions.specs.Parts.{baseOf, tableLength, Rows, rowsOf, withRows}
-use Rattle.store_definitions.specs.Decisions.{andThen, refuseIf, formDecided, touchDecided, carriedOut, writes}
+use Rattle.store_definitions.specs.Decisions.{andThen, refuseIf, formDecided, touchDecided, carriedOut, writes, thenOutput}
 
 module _ {E : Type 0} (zeroElement : E) where
   -- compaction of the points of the table; entries past the table length keep what they held
@@ -55,8 +55,11 @@ module _ {E : Type 0} where
 
   -- 'copy and equality 5, 3': of an index and the length of a slice
   unfoldable pub copyDecided : PointStore E → ℕ → ℕ → Decided
-  copyDecided p i n =
-      andThen (formDecided p) (andThen (touchDecided p i) (refuseIf (not (eqb n (p .header .dimensions))) 3))
+  copyDecided p i n = andThen (touchDecided p i) (refuseIf (not (eqb n (p .header .dimensions))) 3)
+
+  -- copy of a store that is checked
+  unfoldable pub copyWritten : PointStore E → ℕ → List E → Output E
+  copyWritten p i out = writes (copyDecided p i (length out)) out (copyOf p i)
 
   unfoldable pub copySpec : PointStore E → ℕ → List E → Output E
-  copySpec p i out = writes (copyDecided p i (length out)) out (copyOf p i)
+  copySpec p i out = thenOutput (formDecided p) out (copyWritten p i out)

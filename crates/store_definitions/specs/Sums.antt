@@ -10,7 +10,7 @@ use Rattle.interval_store_manager.specs.Calls.{Decided, go, refuse}
 use Rattle.store_definitions.specs.Memory.{PointStore}
 use Rattle.store_definitions.specs.Answers.{Answer, says, refused, Output}
 use Rattle.store_definitions.specs.Parts.{baseOf}
-use Rattle.store_definitions.specs.Decisions.{andThen, refuseIf, formDecided, touchDecided, writes}
+use Rattle.store_definitions.specs.Decisions.{andThen, refuseIf, formDecided, touchDecided, writes, thenAnswer, thenOutput}
 use Rattle.store_definitions.specs.Rows.{copyOf, copyDecided}
 
 -- an index and its weight
@@ -23,9 +23,12 @@ answers go b = says b
 answers (refuse n) b = refused n
 
 module _ {E : Type 0} (eq : E → E → Bool) where
-  -- 'is_equal compares copy and point by float ==.'
+  -- 'is_equal compares copy and point by float ==.' Of a store that is checked
+  unfoldable pub equality : PointStore E → ℕ → List E → Answer
+  equality p i point = answers (copyDecided p i (length point)) (allEqual eq (copyOf p i) point)
+
   unfoldable pub isEqualSpec : PointStore E → ℕ → List E → Answer
-  isEqualSpec p i point = answers (copyDecided p i (length point)) (allEqual eq (copyOf p i) point)
+  isEqualSpec p i point = thenAnswer (formDecided p) (equality p i point)
 
 module _ {E : Type 0} where
   -- 'sum 3, then per item 5, 11': 'weight above 16,777,216'
@@ -45,9 +48,11 @@ module _ {E : Type 0} where
   summed add p [] sums = sums
   summed add p (w ∷ ws) sums = summed add p ws (add (w .weight) sums (storedRow p (w .index)))
 
-  unfoldable pub pointSumSpec : {S : Type 0} → (ℕ → List S → List E → List S) → S → PointStore E → List Weighted → List S → Output S
-  pointSumSpec add zeroSum p ws out =
-      writes
-      (andThen (formDecided p) (andThen (refuseIf (not (eqb (length out) (p .header .dimensions))) 3) (itemsDecided p ws)))
-      out
+  -- the sum of a store that is checked
+  unfoldable pub sumWritten : {S : Type 0} → (ℕ → List S → List E → List S) → S → PointStore E → List Weighted → List S → Output S
+  sumWritten add zeroSum p ws out =
+      writes (andThen (refuseIf (not (eqb (length out) (p .header .dimensions))) 3) (itemsDecided p ws)) out
       (summed add p ws (replicate (p .header .dimensions) zeroSum))
+
+  unfoldable pub pointSumSpec : {S : Type 0} → (ℕ → List S → List E → List S) → S → PointStore E → List Weighted → List S → Output S
+  pointSumSpec add zeroSum p ws out = thenOutput (formDecided p) out (sumWritten add zeroSum p ws out)

@@ -1,14 +1,17 @@
--- Document 01, 'Worked windows': cases A to H as one table, and the theorem that the definitions give what it says. Elements are
--- numbers, compared as such; the memory lent to each opening holds rubbish.
+-- Document 01, 'Worked windows': cases A to H as one table, and the theorem that the calls' definitions give what it says. The
+-- elements are float words, compared as the calls compare them; the memory lent to each opening holds rubbish.
 use Prim.Native.Nat.{ℕ, _*_}
 use mathlib.Core.Bool.{Bool, true, false, _&&_}
 use mathlib.Core.List.{List, [], _∷_, _++_}
 use mathlib.Core.Path.{_≡_, refl}
 use lib.ListN.{take, replicate}
 use lib.Dec.{eqb}
+use lib.IntN.{pos}
+use lib.Ieee.{binary32, eq, ofInt, ofFields, ofBits, toBits}
 use Rattle.placement.specs.declared.Laid.the-variants.{Whole, Joined}
-use Rattle.terms.specs.Below.{one, everyBelow}
+use Rattle.terms.specs.Below.{one, everyBelow, sumBelow, countBelow}
 use Rattle.terms.specs.Rows.{allEqual}
+use Rattle.float_bits.specs.Words.{wordOf, wordsEqual}
 use Rattle.interval_store_manager.specs.Calls.{pushed, changed, taken, released}
 use Rattle.interval_store_manager.specs.Intervals.{inside, holders, isFree, inBounds, noneShared}
 use Rattle.interval_store_manager.specs.WellFormed.{capacityAllowed, lentEnough as stackLent, wellFormed as managerWellFormed}
@@ -19,19 +22,19 @@ use Rattle.placement.specs.Growth.{grown}
 use Rattle.placement.specs.Laying.{writtenCount, laidAs, laidElements, laidFree, placeOf}
 use Rattle.placement.specs.Overlap.{overlaps}
 use Rattle.placement.specs.Row.{rowToLay, movedWindow}
-use Rattle.labels.specs.Counted.{countedWell, indexTaken, lowered}
+use Rattle.labels.specs.Counted.{managed, freeUncounted, countsFit, indexTaken, lowered, liveNumber}
 use Rattle.labels.specs.Decisions.{none, codeDecided, roomDecided, decDecided}
 use Rattle.store_definitions.specs.declared.Shape.{Shape}
 use Rattle.store_definitions.specs.Memory.{Memory, PointStore}
 use Rattle.store_definitions.specs.Parts.{tableLength}
-use Rattle.store_definitions.specs.Answers.{Answer, kept, waiting, done, is, says, refused, refusedAfter, Outcome}
-use Rattle.store_definitions.specs.Opening.{OpenOutcome, opens, refuses, openDecided, openedMemory, opened, openSpec}
-use Rattle.store_definitions.specs.Counting.{decTest, placeAfterDec, decremented, decSpec}
-use Rattle.store_definitions.specs.Rows.{compactedRows, grownRows, short, roomMade, compactSpec, copyOf}
+use Rattle.store_definitions.specs.Answers.{Answer, kept, waiting, done, is, says, refused, refusedAfter, Outcome, Output, output}
+use Rattle.store_definitions.specs.Opening.{openDecided, openedMemory, opened, openSpec}
+use Rattle.store_definitions.specs.Counting.{decTest, placeAfterDec, decremented, decSpec, liveNumberSpec, freeStartSpec}
+use Rattle.store_definitions.specs.Rows.{compactedRows, grownRows, short, roomMade, compactSpec, copyOf, copyDecided, copyWritten, copySpec}
 use Rattle.store_definitions.specs.Adding.{pointLength, waits, tableFull, addDecided, windowAfter, sequenced, rowOf, labelGiven, labelled, tableGrown, placed, joins, overflows, laidRows, laidHow, keptAfter, indexGiven, keeps, addSpec}
 use Rattle.store_definitions.specs.Bounds.{boundsHold, startAllowed, rotationAllowed, lentEnough}
 use Rattle.store_definitions.specs.Decisions.{formDecided, live, touchDecided}
-use Rattle.store_definitions.specs.WellFormed.{freeStartWell, placesDistinct, placesEnd, pointsWell, wellFormed}
+use Rattle.store_definitions.specs.WellFormed.{tableLengthWell, storeLengthWell, freeStartWell, emptyUncounted, placesDistinct, placesEnd, sequenceWell, wellFormed}
 
 data Call : Type 0 where
   add : List ℕ → Call
@@ -71,29 +74,42 @@ rubbish h =
       attributeEnds = [];
     }
 
+-- the words of whole numbers' floats
+floats : List ℕ → List ℕ
+floats [] = []
+floats (n ∷ ns) = wordOf (ofInt binary32 (pos n)) ∷ floats ns
+
+words-of-floats : floats (0 ∷ 1 ∷ 2 ∷ 3 ∷ 4 ∷ []) ≡ 0 ∷ 0x3f80_0000 ∷ 0x4000_0000 ∷ 0x4040_0000 ∷ 0x4080_0000 ∷ []
+unfolding floats ofInt toBits
+words-of-floats = refl
+
 called : Call → PointStore ℕ → Outcome ℕ
-called (add point) p = addSpec eqb 0 p point 0
+called (add point) p = addSpec wordsEqual 0 p (floats point) 0
 called (dec i) p = decSpec p i none
 called compact p = compactSpec 0 p
 
--- what a case says: the answers, the places of the table, the free start, the floats before it, and the copy of one index
+-- what a case says: the answers, the opening's first, the places of the table, the floats before the free start, and what free
+-- start, live number and the copy of one index answer
 record Said : Type 0 where
   answers : List Answer
   places : List ℕ
-  free : ℕ
-  floats : List ℕ
-  copy : List ℕ
+  before : List ℕ
+  free : Answer
+  live : Answer
+  copy : Output ℕ
 
-run : ℕ → List Call → PointStore ℕ → List Answer → Said
-run i [] p answers =
+run : ℕ → List Call → Outcome ℕ → List Answer → Said
+run i [] o answers =
+    let p = o .after in
     record {
-      answers = answers;
+      answers = answers ++ o .answer ∷ [];
       places = take (tableLength (p .header)) (p .memory .location);
-      free = p .header .«start_free_region»;
-      floats = take (p .header .«start_free_region») (p .memory .store);
-      copy = copyOf p i;
+      before = take (p .header .«start_free_region») (p .memory .store);
+      free = freeStartSpec p;
+      live = liveNumberSpec p;
+      copy = copySpec p i (replicate 4 77);
     }
-run i (c ∷ cs) p answers = let o = called c p in run i cs (o .after) (answers ++ o .answer ∷ [])
+run i (c ∷ cs) o answers = run i cs (called c (o .after)) (answers ++ o .answer ∷ [])
 
 record Case : Type 0 where
   opening : Shape
@@ -101,12 +117,12 @@ record Case : Type 0 where
   copiedIndex : ℕ
   said : Said
 
-started : Case → OpenOutcome ℕ → Said
-started c (opens p) = run (c .copiedIndex) (c .calls) p []
-started c (refuses n m) = record { answers = refused n ∷ []; places = []; free = 0; floats = []; copy = [] }
-
 ran : Case → Said
-ran c = started c (openSpec 0 (c .opening) (rubbish (c .opening)))
+ran c = run (c .copiedIndex) (c .calls) (openSpec 0 (c .opening) (rubbish (c .opening))) []
+
+-- a copy that is given
+copies : List ℕ → Output ℕ
+copies row = output done (floats row)
 
 abbrev plain : Shape
 plain = shape true false 10 5
@@ -118,7 +134,7 @@ abbrev five : List Call
 five = add (1 ∷ 2 ∷ []) ∷ add (3 ∷ 4 ∷ []) ∷ add (5 ∷ 6 ∷ []) ∷ add (7 ∷ 8 ∷ []) ∷ add (9 ∷ 10 ∷ []) ∷ []
 
 abbrev fiveAnswers : List Answer
-fiveAnswers = waiting ∷ kept 0 none (Whole 0) ∷ kept 1 none (Joined 1) ∷ kept 2 none (Joined 2) ∷ kept 3 none (Joined 3) ∷ []
+fiveAnswers = done ∷ waiting ∷ kept 0 none (Whole 0) ∷ kept 1 none (Joined 1) ∷ kept 2 none (Joined 2) ∷ kept 3 none (Joined 3) ∷ []
 
 abbrev e : ℕ
 e = 65535
@@ -130,70 +146,70 @@ cases =
       opening = plain;
       calls = take 1 five;
       copiedIndex = 0;
-      said = record { answers = waiting ∷ []; places = e ∷ e ∷ e ∷ e ∷ e ∷ []; free = 0; floats = []; copy = [] };
+      said = record { answers = take 2 fiveAnswers; places = e ∷ e ∷ e ∷ e ∷ e ∷ []; before = []; free = is 0; live = is 0; copy = output (refused 5) (replicate 4 77) };
     }
     -- B: 3 4: index 0, Whole, place 0, free start 4
     ∷ record {
       opening = plain;
       calls = take 2 five;
       copiedIndex = 0;
-      said = record { answers = take 2 fiveAnswers; places = 0 ∷ e ∷ e ∷ e ∷ e ∷ []; free = 4; floats = 1 ∷ 2 ∷ 3 ∷ 4 ∷ []; copy = 1 ∷ 2 ∷ 3 ∷ 4 ∷ [] };
+      said = record { answers = take 3 fiveAnswers; places = 0 ∷ e ∷ e ∷ e ∷ e ∷ []; before = floats (1 ∷ 2 ∷ 3 ∷ 4 ∷ []); free = is 4; live = is 1; copy = copies (1 ∷ 2 ∷ 3 ∷ 4 ∷ []) };
     }
     -- C: 5 6: index 1, Joined, place 1, free start 6
     ∷ record {
       opening = plain;
       calls = take 3 five;
       copiedIndex = 1;
-      said = record { answers = take 3 fiveAnswers; places = 0 ∷ 1 ∷ e ∷ e ∷ e ∷ []; free = 6; floats = 1 ∷ 2 ∷ 3 ∷ 4 ∷ 5 ∷ 6 ∷ []; copy = 3 ∷ 4 ∷ 5 ∷ 6 ∷ [] };
+      said = record { answers = take 4 fiveAnswers; places = 0 ∷ 1 ∷ e ∷ e ∷ e ∷ []; before = floats (1 ∷ 2 ∷ 3 ∷ 4 ∷ 5 ∷ 6 ∷ []); free = is 6; live = is 2; copy = copies (3 ∷ 4 ∷ 5 ∷ 6 ∷ []) };
     }
     -- then 7 8 and 9 10: indices 2, 3, places 2, 3, free start 10
     ∷ record {
       opening = plain;
       calls = five;
       copiedIndex = 3;
-      said = record { answers = fiveAnswers; places = 0 ∷ 1 ∷ 2 ∷ 3 ∷ e ∷ []; free = 10; floats = 1 ∷ 2 ∷ 3 ∷ 4 ∷ 5 ∷ 6 ∷ 7 ∷ 8 ∷ 9 ∷ 10 ∷ []; copy = 7 ∷ 8 ∷ 9 ∷ 10 ∷ [] };
+      said = record { answers = fiveAnswers; places = 0 ∷ 1 ∷ 2 ∷ 3 ∷ e ∷ []; before = floats (1 ∷ 2 ∷ 3 ∷ 4 ∷ 5 ∷ 6 ∷ 7 ∷ 8 ∷ 9 ∷ 10 ∷ []); free = is 10; live = is 4; copy = copies (7 ∷ 8 ∷ 9 ∷ 10 ∷ []) };
     }
     -- D: dec 0, dec 1, compact: places 0 and 1 for indices 2 and 3, free start 6; copy 2 is 5 6 7 8
     ∷ record {
       opening = plain;
       calls = five ++ dec 0 ∷ dec 1 ∷ compact ∷ [];
       copiedIndex = 2;
-      said = record { answers = fiveAnswers ++ done ∷ done ∷ done ∷ []; places = e ∷ e ∷ 0 ∷ 1 ∷ e ∷ []; free = 6; floats = 5 ∷ 6 ∷ 7 ∷ 8 ∷ 9 ∷ 10 ∷ []; copy = 5 ∷ 6 ∷ 7 ∷ 8 ∷ [] };
+      said = record { answers = fiveAnswers ++ done ∷ done ∷ done ∷ []; places = e ∷ e ∷ 0 ∷ 1 ∷ e ∷ []; before = floats (5 ∷ 6 ∷ 7 ∷ 8 ∷ 9 ∷ 10 ∷ []); free = is 6; live = is 2; copy = copies (5 ∷ 6 ∷ 7 ∷ 8 ∷ []) };
     }
     -- E: add 11 12: index 0, Joined, place 2
     ∷ record {
       opening = plain;
       calls = five ++ dec 0 ∷ dec 1 ∷ compact ∷ add (11 ∷ 12 ∷ []) ∷ [];
       copiedIndex = 0;
-      said = record { answers = fiveAnswers ++ done ∷ done ∷ done ∷ kept 0 none (Joined 2) ∷ []; places = 2 ∷ e ∷ 0 ∷ 1 ∷ e ∷ []; free = 8; floats = 5 ∷ 6 ∷ 7 ∷ 8 ∷ 9 ∷ 10 ∷ 11 ∷ 12 ∷ []; copy = 9 ∷ 10 ∷ 11 ∷ 12 ∷ [] };
+      said = record { answers = fiveAnswers ++ done ∷ done ∷ done ∷ kept 0 none (Joined 2) ∷ []; places = 2 ∷ e ∷ 0 ∷ 1 ∷ e ∷ []; before = floats (5 ∷ 6 ∷ 7 ∷ 8 ∷ 9 ∷ 10 ∷ 11 ∷ 12 ∷ []); free = is 8; live = is 3; copy = copies (9 ∷ 10 ∷ 11 ∷ 12 ∷ []) };
     }
     -- F: rotating, after C, copy 1 is 5 6 3 4
     ∷ record {
       opening = rotating;
       calls = take 3 five;
       copiedIndex = 1;
-      said = record { answers = take 3 fiveAnswers; places = 0 ∷ 1 ∷ e ∷ e ∷ e ∷ []; free = 6; floats = 1 ∷ 2 ∷ 3 ∷ 4 ∷ 5 ∷ 6 ∷ []; copy = 5 ∷ 6 ∷ 3 ∷ 4 ∷ [] };
+      said = record { answers = take 4 fiveAnswers; places = 0 ∷ 1 ∷ e ∷ e ∷ e ∷ []; before = floats (1 ∷ 2 ∷ 3 ∷ 4 ∷ 5 ∷ 6 ∷ []); free = is 6; live = is 2; copy = copies (5 ∷ 6 ∷ 3 ∷ 4 ∷ []) };
     }
     -- G: rotating, the five adds, dec 0, compact: two zeros, free start still 10
     ∷ record {
       opening = rotating;
       calls = five ++ dec 0 ∷ compact ∷ [];
       copiedIndex = 1;
-      said = record { answers = fiveAnswers ++ done ∷ done ∷ []; places = e ∷ 1 ∷ 2 ∷ 3 ∷ e ∷ []; free = 10; floats = 0 ∷ 0 ∷ 3 ∷ 4 ∷ 5 ∷ 6 ∷ 7 ∷ 8 ∷ 9 ∷ 10 ∷ []; copy = 5 ∷ 6 ∷ 3 ∷ 4 ∷ [] };
+      said = record { answers = fiveAnswers ++ done ∷ done ∷ []; places = e ∷ 1 ∷ 2 ∷ 3 ∷ e ∷ []; before = floats (0 ∷ 0 ∷ 3 ∷ 4 ∷ 5 ∷ 6 ∷ 7 ∷ 8 ∷ 9 ∷ 10 ∷ []); free = is 10; live = is 3; copy = copies (5 ∷ 6 ∷ 3 ∷ 4 ∷ []) };
     }
     -- G: without rotation 8
     ∷ record {
       opening = plain;
       calls = five ++ dec 0 ∷ compact ∷ [];
       copiedIndex = 1;
-      said = record { answers = fiveAnswers ++ done ∷ done ∷ []; places = e ∷ 0 ∷ 1 ∷ 2 ∷ e ∷ []; free = 8; floats = 3 ∷ 4 ∷ 5 ∷ 6 ∷ 7 ∷ 8 ∷ 9 ∷ 10 ∷ []; copy = 3 ∷ 4 ∷ 5 ∷ 6 ∷ [] };
+      said = record { answers = fiveAnswers ++ done ∷ done ∷ []; places = e ∷ 0 ∷ 1 ∷ 2 ∷ e ∷ []; before = floats (3 ∷ 4 ∷ 5 ∷ 6 ∷ 7 ∷ 8 ∷ 9 ∷ 10 ∷ []); free = is 8; live = is 3; copy = copies (3 ∷ 4 ∷ 5 ∷ 6 ∷ []) };
     }
     -- H: no internal shingling, rotating, capacity 2, start 2: add 1 2 3 4; add 3 4 5 6; dec 0; add 9 9 9 9: refused 10
     ∷ record {
       opening = shape false true 2 2;
       calls = add (1 ∷ 2 ∷ 3 ∷ 4 ∷ []) ∷ add (3 ∷ 4 ∷ 5 ∷ 6 ∷ []) ∷ dec 0 ∷ add (9 ∷ 9 ∷ 9 ∷ 9 ∷ []) ∷ [];
       copiedIndex = 1;
-      said = record { answers = kept 0 none (Whole 0) ∷ kept 1 none (Joined 1) ∷ done ∷ refused 10 ∷ []; places = e ∷ 1 ∷ []; free = 6; floats = 0 ∷ 0 ∷ 3 ∷ 4 ∷ 5 ∷ 6 ∷ []; copy = 5 ∷ 6 ∷ 3 ∷ 4 ∷ [] };
+      said = record { answers = done ∷ kept 0 none (Whole 0) ∷ kept 1 none (Joined 1) ∷ done ∷ refused 10 ∷ []; places = e ∷ 1 ∷ []; before = floats (0 ∷ 0 ∷ 3 ∷ 4 ∷ 5 ∷ 6 ∷ []); free = is 6; live = is 1; copy = copies (5 ∷ 6 ∷ 3 ∷ 4 ∷ []) };
     }
     ∷ []
 
@@ -211,11 +227,16 @@ numbers (refusedAfter n k) = 6 ∷ n ∷ k ∷ []
 same : List ℕ → List ℕ → Bool
 same xs ys = allEqual eqb xs ys
 
+alike : Answer → Answer → Bool
+alike a b = same (numbers a) (numbers b)
+
 agree : Said → Said → Bool
 agree a b =
-    allEqual (λ x y. same (numbers x) (numbers y)) (a .answers) (b .answers)
+    allEqual alike (a .answers) (b .answers)
     && (same (a .places) (b .places)
-    && (eqb (a .free) (b .free) && (same (a .floats) (b .floats) && same (a .copy) (b .copy))))
+    && (same (a .before) (b .before)
+    && (alike (a .free) (b .free)
+    && (alike (a .live) (b .live) && (alike (a .copy .answer) (b .copy .answer) && same (a .copy .out) (b .copy .out))))))
 
 hold : List Case → Bool
 hold [] = true
@@ -223,5 +244,5 @@ hold (c ∷ cs) = agree (ran c) (c .said) && hold cs
 
 -- every case gives what is said of it
 worked-windows : hold cases ≡ true
-unfolding shape rubbish called run started ran cases numbers same agree hold everyBelow allEqual pushed changed taken released inside holders isFree inBounds noneShared capacityAllowed stackLent managerWellFormed wrappingSub wrappingAdd alignment zerosBefore holds liveBelow moved grownBlocks blocks blockMoves copiedDown settled blockDown blocksDown writtenByBlocks compacted turn turned copied grown writtenCount laidAs laidElements laidFree placeOf overlaps rowToLay movedWindow countedWell indexTaken lowered codeDecided roomDecided decDecided openDecided openedMemory opened openSpec decTest placeAfterDec decremented decSpec compactedRows grownRows short roomMade compactSpec copyOf pointLength waits tableFull addDecided windowAfter sequenced rowOf labelGiven labelled tableGrown placed joins overflows laidRows laidHow keptAfter indexGiven keeps addSpec boundsHold startAllowed rotationAllowed lentEnough formDecided live touchDecided freeStartWell placesDistinct placesEnd pointsWell wellFormed
+unfolding shape rubbish floats called run ran copies cases numbers same alike agree hold eq ofInt ofFields ofBits toBits wordsEqual everyBelow sumBelow countBelow allEqual pushed changed taken released inside holders isFree inBounds noneShared capacityAllowed stackLent managerWellFormed wrappingSub wrappingAdd alignment zerosBefore holds liveBelow moved grownBlocks blocks blockMoves copiedDown settled blockDown blocksDown writtenByBlocks compacted turn turned copied grown writtenCount laidAs laidElements laidFree placeOf overlaps rowToLay movedWindow managed freeUncounted countsFit indexTaken lowered codeDecided roomDecided decDecided openDecided openedMemory opened openSpec decTest placeAfterDec decremented decSpec compactedRows grownRows short roomMade compactSpec copyOf copyDecided copyWritten copySpec liveNumber liveNumberSpec freeStartSpec pointLength waits tableFull addDecided windowAfter sequenced rowOf labelGiven labelled tableGrown placed joins overflows laidRows laidHow keptAfter indexGiven keeps addSpec boundsHold startAllowed rotationAllowed lentEnough formDecided live touchDecided tableLengthWell storeLengthWell freeStartWell emptyUncounted placesDistinct placesEnd sequenceWell wellFormed
 worked-windows = refl

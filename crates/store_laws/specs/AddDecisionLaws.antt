@@ -19,6 +19,7 @@ use Rattle.store_laws.specs.DecisionLaws.{both-go, not-refused}
 -- what an accepted add may rely on
 pub record Accepted {E : Type 0} (p : PointStore E) (point : List E) (code : ℕ) : Type 0 where
   pub sized : length point ≡ pointLength (p .header)
+  pub unfinished : p .header .«next_sequence_index» ≡ 4294967295 → ⊥
   pub coded : p .header .«store_labels» ≡ true → code ≤ 23
 
 -- and a kept one
@@ -61,6 +62,7 @@ module _ {E : Type 0} (p : PointStore E) (point : List E) (code : ℕ) where
       let c = both-go (refuseIf (eqb (s .«next_sequence_index») 4294967295) 12) (codeDecided (s .«store_labels») code) (b .1) in
       record {
         sized = eqb-true (length point) (pointLength s) (not-false (eqb (length point) (pointLength s)) (not-refused _ 3 (b .0)));
+        unfinished = eqb-false (s .«next_sequence_index») 4294967295 (not-refused _ 12 (c .0));
         coded = code-go (s .«store_labels») code (c .1);
       }
 

@@ -10,6 +10,7 @@ use lib.Seq.{getD-set-same, getD-set-other}
 use lib.Dec.{eqb}
 use borrow.Author.Tests.{eq-eqb, ne-eqb, eqb-true, eqb-false}
 use Rattle.terms.specs.Below.{positive}
+use Rattle.terms.specs.Entries.{stored}
 use Rattle.interval_store_manager.specs.Calls.{changed}
 use Rattle.placement.specs.Growth.{grown, grown-within}
 use Rattle.placement.specs.Laying.{placeOf}
@@ -62,6 +63,8 @@ module _ {E : Type 0} (p : PointStore E) (w : Sound p) (n : ℕ) (t : Counted) (
         ends-same = l .ends-same ∙ ready .lengths .ends-same;
       })
       r empty-after
+      (λ k h.
+      stored (λ x. x ≤ 65535) (t .counts) i 1 k (omega (arith, below, ready .well .lent)) (λ e. omega arith) (λ d. ready .counts-most k h))
 
 -- a table that is empty and not full can grow
 pub can-grow : (s : Store) → tableLength s ≤ s .capacity → tableFull s ≡ false → s .«index_manager» .last_in_use ≡ 0 → tableLength s < grown (tableLength s) 0 (s .capacity)
@@ -104,7 +107,7 @@ module _ {E : Type 0} (eq : E → E → Bool) (zeroElement : E) (p : PointStore 
       laid-well : Sound laid
       unfolding sequenced pointLength laidRows
       laid-well =
-          with-rows (sequenced (withLabels l p) point) (laidRows eq h r row) (sequenced-sound (withLabels l p) point v (k .accepted .sized))
+          with-rows (sequenced (withLabels l p) point) (laidRows eq h r row) (sequenced-sound (withLabels l p) point v (k .accepted .sized) (k .accepted .unfinished))
           (laid-sound eq h r row (w .bounds) rows-made sized fits)
           (room-empty zeroElement h (w .table-within) (rowsOf p) (w .rows))
 
@@ -133,7 +136,7 @@ module _ {E : Type 0} (eq : E → E → Bool) (zeroElement : E) (p : PointStore 
           placed-well n (pointTable laid) (laid .memory .location)
           (as-it-is laid laid-well (positive (h .«index_manager» .last_in_use) (eqb-false (h .«index_manager» .last_in_use) 0 e))))
 
-    pub kept-sound : Sound (keptAfter eq zeroElement p point code)
+    pub kept-sound : Sound (keptAfter eq (roomMade zeroElement (p .header) (rowsOf p)) (rowOf p point) p point code)
     unfolding keptAfter labelled
     kept-sound =
         let l : Labels = labelTaken classTable (h .capacity) (labelHalf p) code .after in
@@ -154,10 +157,10 @@ module _ {E : Type 0} (eq : E → E → Bool) (zeroElement : E) (p : PointStore 
           let r : Rows E = roomMade zeroElement (p .header) (rowsOf p) in
           let row : List E = rowOf p point in
           by-cases (λ o. Sound (o .after)) (overflows eq (p .header) r row) (outcome (refused 10) (withRows r p))
-          (outcome (kept (indexGiven eq zeroElement p) (labelGiven p) (laidHow eq (p .header) r row)) (keptAfter eq zeroElement p point code))
+          (outcome (kept (indexGiven p) (labelGiven p) (laidHow eq (p .header) r row)) (keptAfter eq (roomMade zeroElement (p .header) (rowsOf p)) (rowOf p point) p point code))
           (λ full. room-kept eq zeroElement p w point code k)
           (λ fits. kept-sound eq zeroElement p w point code k fits)
-      split wait e = sequenced-sound p point w (waits-on p point code e .sized)
+      split wait e = let a = waits-on p point code e in sequenced-sound p point w (a .sized) (a .unfinished)
       split (refuseAdd n) e = w
 
   pub add-keeps : wellFormed p ≡ true → wellFormed (addSpec eq zeroElement p point code .after) ≡ true

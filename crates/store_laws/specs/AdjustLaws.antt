@@ -10,7 +10,7 @@ use Rattle.interval_store_manager.specs.Calls.{Decided, go, refuse}
 use Rattle.labels.specs.Decisions.{none}
 use Rattle.store_definitions.specs.Memory.{PointStore}
 use Rattle.store_definitions.specs.Answers.{done, refusedAfter, Outcome}
-use Rattle.store_definitions.specs.Counting.{Pairing, pairDecided, pairDone, pairCarriedOut, adjustFrom, adjustSpec}
+use Rattle.store_definitions.specs.Counting.{Pairing, pairDecided, pairDone, unlessRefused, adjustFrom, adjustSpec}
 use Rattle.store_definitions.specs.Decisions.{formDecided}
 use Rattle.store_definitions.specs.WellFormed.{wellFormed}
 
@@ -43,11 +43,11 @@ module _ {E : Type 0} where
     pub why : stepDecided after pair ≡ refuse n
 
   -- one pair, and then the rest
-  adjust-step : (before : ℕ) (q : Pairing) (qs : List Pairing) (p : PointStore E) → adjustFrom before (q ∷ qs) p ≡ pairCarriedOut (stepDecided p q) p before (adjustFrom (suc before) qs) (stepDone p q)
+  adjust-step : (before : ℕ) (q : Pairing) (qs : List Pairing) (p : PointStore E) → adjustFrom before (q ∷ qs) p ≡ unlessRefused (stepDecided p q) before p (adjustFrom (suc before) qs (stepDone p q))
   unfolding adjustFrom
   adjust-step before q qs p = choose (eqb (q .insertIndex) none)
     where
-      choose : (b : Bool) → cond b (adjustFrom (suc before) qs p) (pairCarriedOut (pairDecided p q) p before (adjustFrom (suc before) qs) (pairDone p q)) ≡ pairCarriedOut (cond b go (pairDecided p q)) p before (adjustFrom (suc before) qs) (cond b p (pairDone p q))
+      choose : (b : Bool) → cond b (adjustFrom (suc before) qs p) (unlessRefused (pairDecided p q) before p (adjustFrom (suc before) qs (pairDone p q))) ≡ unlessRefused (cond b go (pairDecided p q)) before p (adjustFrom (suc before) qs (cond b p (pairDone p q)))
       choose true = refl
       choose false = refl
 
@@ -66,8 +66,8 @@ module _ {E : Type 0} where
 
   stopped-or : (before : ℕ) (q : Pairing) (qs : List Pairing) (p : PointStore E) (n k : ℕ) (d : Decided) → stepDecided p q ≡ d
       → (adjustFrom (suc before) qs (stepDone p q) .answer ≡ refusedAfter n k → Stopped (suc before) qs (stepDone p q) (adjustFrom (suc before) qs (stepDone p q) .after) n k)
-      → pairCarriedOut d p before (adjustFrom (suc before) qs) (stepDone p q) .answer ≡ refusedAfter n k
-      → Stopped before (q ∷ qs) p (pairCarriedOut d p before (adjustFrom (suc before) qs) (stepDone p q) .after) n k
+      → unlessRefused d before p (adjustFrom (suc before) qs (stepDone p q)) .answer ≡ refusedAfter n k
+      → Stopped before (q ∷ qs) p (unlessRefused d before p (adjustFrom (suc before) qs (stepDone p q)) .after) n k
   stopped-or before q qs p n k go e f a = further before q qs p _ n k e (f a)
   stopped-or before q qs p n k (refuse m) e f a =
       let at : before ≡ k = cc in
@@ -94,8 +94,8 @@ module _ {E : Type 0} where
   -- an adjust that is done: every pair was accepted
   done-or : (before : ℕ) (q : Pairing) (qs : List Pairing) (p : PointStore E) (d : Decided) → stepDecided p q ≡ d
       → (adjustFrom (suc before) qs (stepDone p q) .answer ≡ done → Accepted qs (stepDone p q) × (adjustFrom (suc before) qs (stepDone p q) .after ≡ pairsDone qs (stepDone p q)))
-      → pairCarriedOut d p before (adjustFrom (suc before) qs) (stepDone p q) .answer ≡ done
-      → Accepted (q ∷ qs) p × (pairCarriedOut d p before (adjustFrom (suc before) qs) (stepDone p q) .after ≡ pairsDone (q ∷ qs) p)
+      → unlessRefused d before p (adjustFrom (suc before) qs (stepDone p q)) .answer ≡ done
+      → Accepted (q ∷ qs) p × (unlessRefused d before p (adjustFrom (suc before) qs (stepDone p q)) .after ≡ pairsDone (q ∷ qs) p)
   done-or before q qs p go e f a = ((e, f a .0), f a .1)
   done-or before q qs p (refuse m) e f a = absurd (let z : _≡_ {A = ℕ} 0 1 = cc in omega arith)
 

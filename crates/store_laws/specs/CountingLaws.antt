@@ -8,7 +8,7 @@ use mathlib.Core.Path.{_≡_, refl, sym, _∙_}
 use lib.ListN.{length, getD, set, length-set}
 use lib.Seq.{getD-set-same, getD-set-other}
 use lib.Dec.{eqb}
-use borrow.Author.Tests.{eq-eqb, ne-eqb}
+use borrow.Author.Tests.{eq-eqb, ne-eqb, eqb-false}
 use Rattle.terms.specs.Entries.{stored}
 use Rattle.interval_store_manager.specs.Calls.{Decided, go, refuse}
 use Rattle.labels.specs.Counted.{raised, lowered}
@@ -20,13 +20,13 @@ use Rattle.store_definitions.specs.Memory.{PointStore}
 use Rattle.store_definitions.specs.Answers.{done, Outcome, outcome}
 use Rattle.store_definitions.specs.Parts.{tableLength, pointTable, labelHalf, withPoints, withLabels}
 use Rattle.store_definitions.specs.Decisions.{andThen, formDecided, touchDecided}
-use Rattle.store_definitions.specs.Counting.{Pairing, incTest, decTest, incremented, placeAfterDec, decremented, incSpec, decSpec, pairDecided, pairDone, pairCarriedOut, adjustFrom, adjustSpec}
+use Rattle.store_definitions.specs.Counting.{Pairing, incTest, decTest, incremented, placeAfterDec, decremented, incSpec, decSpec, pairDecided, pairDone, unlessRefused, adjustFrom, adjustSpec}
 use Rattle.store_definitions.specs.WellFormed.{classTable, wellFormed}
 use Rattle.store_laws.specs.Sound.{Sound, sound, sound-make}
 use Rattle.store_laws.specs.Cases.{either, by-cases}
 use Rattle.store_laws.specs.Lengths.{raised-lengths, lowered-lengths}
 use Rattle.store_laws.specs.PointsLaws.{rows-fewer, with-points, with-labels}
-use Rattle.store_laws.specs.DecisionLaws.{both-go, touch-go, Used, inc-label-go, dec-label-go, carried}
+use Rattle.store_laws.specs.DecisionLaws.{both-go, not-refused, touch-go, Used, inc-label-go, dec-label-go, carried}
 
 module _ {E : Type 0} where
   module _ (p : PointStore E) (w : Sound p) (i : ℕ) (h : i < tableLength (p .header)) (u : 0 < getD (p .memory .referenceCount) i 0) where
@@ -43,25 +43,27 @@ module _ {E : Type 0} where
     not-empty : eqb (getD location i 65535) 65535 ≡ false
     not-empty = sym (w .empty-is i h) ∙ ne-eqb (getD counts i 0) 0 (λ z. omega arith)
 
-    raised-sound : Sound (withPoints (raised (pointTable p) i) location p)
+    raised-sound : (getD counts i 0 ≡ 65535 → ⊥) → Sound (withPoints (raised (pointTable p) i) location p)
     unfolding raised
-    raised-sound =
+    raised-sound f =
         with-points p w n (raised (pointTable p) i) location (w .table-within) (raise-keeps n (pointTable p) (w .points) i h u) (raised-lengths (pointTable p) i) (w .rows)
         (λ k m.
         stored (λ x. eqb x 0 ≡ eqb (getD location k 65535) 65535) counts i (getD counts i 0 + 1) k (omega (arith, w .points .lent))
         (λ e. rw e (ne-eqb (getD counts i 0 + 1) 0 (λ z. omega arith) ∙ sym not-empty))
         (λ d. w .empty-is k m))
+        (λ k m.
+        stored (λ x. x ≤ 65535) counts i (getD counts i 0 + 1) k (omega (arith, w .points .lent)) (λ e. omega (arith, w .counts-most i h)) (λ d. w .counts-most k m))
 
-    pub inc-sound : (l : ℕ) → (p .header .«store_labels» ≡ true → Used (p .header .capacity) (p .memory .labelCount) l × (getD (p .memory .labelCount) l 0 ≡ 65535 → ⊥)) → Sound (incremented p i l)
+    pub inc-sound : (l : ℕ) → (getD counts i 0 ≡ 65535 → ⊥) → (p .header .«store_labels» ≡ true → Used (p .header .capacity) (p .memory .labelCount) l × (getD (p .memory .labelCount) l 0 ≡ 65535 → ⊥)) → Sound (incremented p i l)
     unfolding incremented
-    inc-sound l f =
+    inc-sound l g f =
         by-cases Sound (p .header .«store_labels») (withLabels (labelRaised (labelHalf p) l) (withPoints (raised (pointTable p) i) location p)) (withPoints (raised (pointTable p) i) location p)
         (λ on.
-        with-labels (withPoints (raised (pointTable p) i) location p) raised-sound (labelRaised (labelHalf p) l)
+        with-labels (withPoints (raised (pointTable p) i) location p) (raised-sound g) (labelRaised (labelHalf p) l)
         (let v = f on in
         label-inc-keeps classTable (p .header .capacity) (labelHalf p) (w .labels on) l (v .0 .below) (v .0 .counted)
         (less (getD (p .memory .labelCount) l 0) (w .labels on .count-most l (v .0 .below)) (v .1))))
-        (λ off. raised-sound)
+        (λ off. raised-sound g)
       where
         less : (k : ℕ) → k ≤ 65535 → (k ≡ 65535 → ⊥) → k < 65535
         less k a b = omega arith
@@ -105,6 +107,9 @@ module _ {E : Type 0} where
         (stored (λ x. eqb x 0 ≡ eqb (getD (placeAfterDec p i) k 65535) 65535) counts i (getD counts i 0 - 1) k (omega (arith, w .points .lent))
         (λ e. rw e place-own)
         (λ d. w .empty-is k m ∙ (rw (place-other k d)))))
+        (λ k m.
+        rw (lowered-counts (pointTable p) i)
+        (stored (λ x. x ≤ 65535) counts i (getD counts i 0 - 1) k (omega (arith, w .points .lent)) (λ e. omega (arith, w .counts-most i h)) (λ d. w .counts-most k m)))
 
     pub dec-sound : (l : ℕ) → (p .header .«store_labels» ≡ true → Used (p .header .capacity) (p .memory .labelCount) l) → Sound (decremented p i l)
     unfolding decremented
@@ -122,7 +127,7 @@ module _ {E : Type 0} where
       let a = both-go (touchDecided p i) _ e in
       let b = both-go (incDecided (p .header .«store_labels») (p .header .capacity) (p .memory .labelCount) l) _ (a .1) in
       let t = touch-go p i (a .0) in
-      inc-sound p w i (t .0) (t .1) l
+      inc-sound p w i (t .0) (t .1) l (eqb-false (getD (p .memory .referenceCount) i 0) 65535 (not-refused _ 7 (b .1)))
       (λ on. inc-label-go (p .header .capacity) (p .memory .labelCount) l (rw on at (b .0)))
 
   pub dec-accepted : (p : PointStore E) (i l : ℕ) → Sound p → decTest p i l ≡ go → Sound (decremented p i l)
@@ -144,7 +149,7 @@ module _ {E : Type 0} where
       split true s d = s
       split false s d = dec-accepted (incremented p (q .insertIndex) (q .insertLabel)) (q .deleteIndex) (q .deleteLabel) s d
 
-  pair-carried : (P : PointStore E → Type 0) (d : Decided) (p : PointStore E) (before : ℕ) (rest : PointStore E → Outcome E) (r : PointStore E) → P p → (d ≡ go → P (rest r .after)) → P (pairCarriedOut d p before rest r .after)
+  pair-carried : (P : PointStore E → Type 0) (d : Decided) (p : PointStore E) (before : ℕ) (rest : PointStore E → Outcome E) (r : PointStore E) → P p → (d ≡ go → P (rest r .after)) → P (unlessRefused d before p (rest r) .after)
   pair-carried P go p before rest r h f = f refl
   pair-carried P (refuse n) p before rest r h f = h
 
@@ -153,7 +158,7 @@ module _ {E : Type 0} where
   unfolding adjustFrom
   adjust-sound before [] p w = w
   adjust-sound before (q ∷ qs) p w =
-      either (λ o. Sound (o .after)) (eqb (q .insertIndex) none) (adjustFrom (suc before) qs p) (pairCarriedOut (pairDecided p q) p before (adjustFrom (suc before) qs) (pairDone p q))
+      either (λ o. Sound (o .after)) (eqb (q .insertIndex) none) (adjustFrom (suc before) qs p) (unlessRefused (pairDecided p q) before p (adjustFrom (suc before) qs (pairDone p q)))
       (adjust-sound (suc before) qs p w)
       (pair-carried Sound (pairDecided p q) p before (adjustFrom (suc before) qs) (pairDone p q) w
       (λ e. adjust-sound (suc before) qs (pairDone p q) (pair-accepted p q w e)))

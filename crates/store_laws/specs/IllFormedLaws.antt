@@ -7,14 +7,13 @@ use lib.Ieee.{Float}
 use Rattle.interval_store_manager.specs.Calls.{refuse}
 use Rattle.store_definitions.specs.Memory.{PointStore}
 use Rattle.store_definitions.specs.Answers.{refused, refusedAfter, outcome, output}
-use Rattle.store_definitions.specs.Parts.{baseOf}
 use Rattle.store_definitions.specs.Decisions.{formDecided}
 use Rattle.store_definitions.specs.Counting.{Pairing, incSpec, decSpec, adjustSpec, countSpec, liveNumberSpec, freeStartSpec}
-use Rattle.store_definitions.specs.Rows.{compactSpec, copyDecided, copySpec}
+use Rattle.store_definitions.specs.Rows.{compactSpec, copySpec}
 use Rattle.store_definitions.specs.Adding.{addDecided, addSpec}
 use Rattle.store_definitions.specs.Sums.{Weighted, isEqualSpec, pointSumSpec}
-use Rattle.store_definitions.specs.Preview.{previewDecided, shingledPointSpec}
-use Rattle.store_definitions.specs.IndexLists.{upTo, indexListDecided, missingIndicesSpec, nextIndicesSpec}
+use Rattle.store_definitions.specs.Preview.{shingledPointSpec}
+use Rattle.store_definitions.specs.IndexLists.{nextValues, missingIndicesSpec, nextIndicesSpec}
 use Rattle.store_definitions.specs.LabelReadings.{labelSpec, attributeSpec, attributeVecSpec}
 use Rattle.store_definitions.specs.WellFormed.{wellFormed}
 
@@ -57,11 +56,11 @@ module _ {E : Type 0} (p : PointStore E) (w : wellFormed p ≡ false) where
   free-start-ill = rw ill
 
   pub copy-ill : (i : ℕ) (out : List E) → copySpec p i out ≡ output (refused 1) out
-  unfolding copySpec copyDecided
+  unfolding copySpec
   copy-ill i out = rw ill
 
   pub equal-ill : (eq : E → E → Bool) (i : ℕ) (point : List E) → isEqualSpec eq p i point ≡ refused 1
-  unfolding isEqualSpec copyDecided
+  unfolding isEqualSpec
   equal-ill eq i point = rw ill
 
   pub sum-ill : {S : Type 0} (add : ℕ → List S → List E → List S) (zeroSum : S) (ws : List Weighted) (out : List S) → pointSumSpec add zeroSum p ws out ≡ output (refused 1) out
@@ -69,16 +68,16 @@ module _ {E : Type 0} (p : PointStore E) (w : wellFormed p ≡ false) where
   sum-ill add zeroSum ws out = rw ill
 
   pub preview-ill : (point out : List E) → shingledPointSpec p point out ≡ output (refused 1) out
-  unfolding shingledPointSpec previewDecided
+  unfolding shingledPointSpec
   preview-ill point out = rw ill
 
   pub missing-ill : (lookAhead : ℕ) (values out : List ℕ) → missingIndicesSpec p lookAhead values out ≡ output (refused 1) out
-  unfolding missingIndicesSpec indexListDecided
+  unfolding missingIndicesSpec
   missing-ill lookAhead values out = rw ill
 
   pub next-ill : (lookAhead : ℕ) (out : List ℕ) → nextIndicesSpec p lookAhead out ≡ output (refused 1) out
   unfolding nextIndicesSpec
-  next-ill lookAhead out = missing-ill lookAhead (upTo (baseOf (p .header)) []) out
+  next-ill lookAhead out = missing-ill lookAhead (nextValues (p .header)) out
 
   pub label-ill : (l : ℕ) → labelSpec p l ≡ refused 1
   unfolding labelSpec

@@ -5,7 +5,7 @@ use native.Mathlib.Omega.{arith}
 use mathlib.Core.Bool.{Bool, true, false, cond, _&&_}
 use mathlib.Core.List.{List}
 use mathlib.Core.Logic.{inl}
-use mathlib.Core.Path.{_≡_, refl, sym, _∙_}
+use mathlib.Core.Path.{_≡_, refl, sym, _∙_, ap}
 use lib.ListN.{length, getD, take, drop, replicate, length-append, length-drop, length-replicate, length-set, List·getD-append, getD-replicate}
 use borrow.Author.Tests.{eq-eqb}
 use Rattle.terms.specs.Below.{both}
@@ -16,10 +16,12 @@ use Rattle.labels.specs.Labels.{Labels}
 use Rattle.labels.specs.Opening.{labelsOpened, table-opened, opened-well}
 use Rattle.labels.specs.Sound.{Sound as LabelsSound}
 use Rattle.store_definitions.specs.declared.Shape.{Shape}
-use Rattle.store_definitions.specs.Memory.{Memory, PointStore}
+use Rattle.store_definitions.specs.Memory.{Memory, PointStore, pointStore}
+use Rattle.store_definitions.specs.Answers.{done, refused, Outcome, outcome}
 use Rattle.store_definitions.specs.Bounds.{boundsHold, startAllowed, rotationAllowed, lentEnough}
 use Rattle.store_definitions.specs.Parts.{Rows, labelHalf, withLabels}
-use Rattle.store_definitions.specs.Opening.{openDecided, freshRecord, filledFirst, openedMemory, opened, opens, refuses, openCarriedOut, openSpec}
+use Rattle.store_definitions.specs.Opening.{openDecided, freshRecord, filledFirst, openedMemory, noRecord, opened, openSpec}
+use Rattle.store_definitions.specs.Decisions.{carriedOut}
 use Rattle.store_definitions.specs.WellFormed.{classTable, wellFormed}
 use Rattle.store_laws.specs.BoundsLaws.{InBounds, in-bounds, in-bounds-make, shaped, start-allowed, start-allowed-make}
 use Rattle.store_laws.specs.LentLaws.{PointsLent, LabelsLent, Lent, lent, lent-make}
@@ -88,16 +90,25 @@ module _ {E : Type 0} (h : Shape) (m : Memory E) where
   open-short e f = rw (e, f)
 
   module _ (zeroElement : E) where
-    -- a refused opening leaves the memory as it was
-    pub open-refused : (n : ℕ) (after : Memory E) → openSpec zeroElement h m ≡ refuses n after → after ≡ m
+    -- a refused opening gives no record and leaves the memory as it was
+    pub open-refused : (n : ℕ) (p : PointStore E) → openSpec zeroElement h m ≡ outcome (refused n) p → p ≡ pointStore noRecord m
     unfolding openSpec
-    open-refused n after e = split (openDecided h m) e
+    open-refused n p e = split (openDecided h m) e
       where
-        split : (d : Decided) → openCarriedOut zeroElement d h m ≡ refuses n after → after ≡ m
-        split go q = absurd (let z : _≡_ {A = ℕ} 0 1 = cc in omega arith)
-        split (refuse k) q = cc
+        split : (d : Decided) → carriedOut d (pointStore noRecord m) (outcome done (opened zeroElement h m)) ≡ outcome (refused n) p → p ≡ pointStore noRecord m
+        split go q = absurd (let a : done ≡ refused n = ap (λ (o : Outcome E). o .answer) q in let z : _≡_ {A = ℕ} 0 1 = cc in omega arith)
+        split (refuse k) q = ap (λ (o : Outcome E). o .after) (sym q)
 
-    pub open-opens : Openable h m → openSpec zeroElement h m ≡ opens (opened zeroElement h m)
+    -- an accepted one was decided so, and gives the opened store
+    pub open-done : (p : PointStore E) → openSpec zeroElement h m ≡ outcome done p → (openDecided h m ≡ go) × (p ≡ opened zeroElement h m)
+    unfolding openSpec
+    open-done p e = split (openDecided h m) e
+      where
+        split : (d : Decided) → carriedOut d (pointStore noRecord m) (outcome done (opened zeroElement h m)) ≡ outcome done p → (d ≡ go) × (p ≡ opened zeroElement h m)
+        split go q = (refl, ap (λ (o : Outcome E). o .after) (sym q))
+        split (refuse k) q = absurd (let a : refused k ≡ done = ap (λ (o : Outcome E). o .answer) q in let z : _≡_ {A = ℕ} 0 1 = cc in omega arith)
+
+    pub open-opens : Openable h m → openSpec zeroElement h m ≡ outcome done (opened zeroElement h m)
     unfolding openSpec
     open-opens o = rw (open-accepts o)
 
@@ -172,6 +183,8 @@ module _ {E : Type 0} (h : Shape) (m : Memory E) where
             empty-is = λ i l.
                 eq-eqb (getD (filledFirst start 0 (m .referenceCount)) i 0) 0 (filled-at start 0 (m .referenceCount) i 0 l)
                 ∙ sym (eq-eqb (getD places i 65535) 65535 (filled-at start 65535 (m .location) i 65535 l));
+            sequence-most = omega arith;
+            counts-most = λ i l. rw (filled-at start 0 (m .referenceCount) i 0 l) (omega arith);
             labels = f;
           }
 
@@ -191,12 +204,7 @@ module _ {E : Type 0} (h : Shape) (m : Memory E) where
           (λ off. opened-with (labelHalf fresh) (λ on. absurd (let t : true ≡ false = sym on ∙ off in let z : _≡_ {A = ℕ} 0 1 = cc in omega arith)))
 
     -- every accepted opening is well-formed
-    pub opening-well-formed : (p : PointStore E) → openSpec zeroElement h m ≡ opens p → wellFormed p ≡ true
-    unfolding openSpec
-    opening-well-formed p e = split (openDecided h m) refl e
-      where
-        split : (d : Decided) → openDecided h m ≡ d → openCarriedOut zeroElement d h m ≡ opens p → wellFormed p ≡ true
-        split go f q =
-            let is : p ≡ opened zeroElement h m = cc in
-            rw is (sound-make (opened zeroElement h m) (opened-sound (open-accepted f)))
-        split (refuse n) f q = absurd (let z : _≡_ {A = ℕ} 0 1 = cc in omega arith)
+    pub opening-well-formed : (p : PointStore E) → openSpec zeroElement h m ≡ outcome done p → wellFormed p ≡ true
+    opening-well-formed p e =
+        let d = open-done p e in
+        rw (d .1) (sound-make (opened zeroElement h m) (opened-sound (open-accepted (d .0))))

@@ -57,8 +57,8 @@ module _ {E : Type 0} (dims base capacity n : ℕ) (r : Rows E) (w : RowsSound d
 
 module _ {E : Type 0} (p : PointStore E) (w : Sound p) where
   -- another table of points, with its places
-  pub with-points : (n : ℕ) (t : Counted) (location : List ℕ) → n ≤ p .header .capacity → WellCounted n t → SameLengths (pointTable p) t → RowsSound (p .header .dimensions) (baseOf (p .header)) (p .header .capacity) n (withPlaces location (rowsOf p)) → ((i : ℕ) → i < n → eqb (countAt t i) 0 ≡ eqb (getD location i 65535) 65535) → Sound (withPoints t location p)
-  with-points n t location h c l r e =
+  pub with-points : (n : ℕ) (t : Counted) (location : List ℕ) → n ≤ p .header .capacity → WellCounted n t → SameLengths (pointTable p) t → RowsSound (p .header .dimensions) (baseOf (p .header)) (p .header .capacity) n (withPlaces location (rowsOf p)) → ((i : ℕ) → i < n → eqb (countAt t i) 0 ≡ eqb (getD location i 65535) 65535) → ((i : ℕ) → i < n → countAt t i ≤ 65535) → Sound (withPoints t location p)
+  with-points n t location h c l r e f =
       record {
         bounds = w .bounds;
         rotation = w .rotation;
@@ -72,6 +72,8 @@ module _ {E : Type 0} (p : PointStore E) (w : Sound p) where
         rows = rw (c .whole) r;
         points = subst (λ k. WellCounted k t) (sym (c .whole)) c;
         empty-is = rw (c .whole) e;
+        sequence-most = w .sequence-most;
+        counts-most = rw (c .whole) f;
         labels = w .labels;
       }
 
@@ -85,11 +87,13 @@ module _ {E : Type 0} (p : PointStore E) (w : Sound p) where
         rows = w .rows;
         points = w .points;
         empty-is = w .empty-is;
+        sequence-most = w .sequence-most;
+        counts-most = w .counts-most;
         labels = λ on. s;
       }
 
-  pub with-window : (window : List E) (sequence : ℕ) → p .header .dimensions ≤ length window → Sound (withWindow window sequence p)
-  with-window window sequence h =
+  pub with-window : (window : List E) (sequence : ℕ) → p .header .dimensions ≤ length window → sequence ≤ 4294967295 → Sound (withWindow window sequence p)
+  with-window window sequence h k =
       record {
         bounds = w .bounds;
         rotation = w .rotation;
@@ -98,5 +102,7 @@ module _ {E : Type 0} (p : PointStore E) (w : Sound p) where
         rows = w .rows;
         points = w .points;
         empty-is = w .empty-is;
+        sequence-most = k;
+        counts-most = w .counts-most;
         labels = w .labels;
       }

@@ -85,7 +85,7 @@ module _ {E : Type 0} (eq : E → E → Bool) (zeroElement : E) (p : PointStore 
       made = outcome (refused 10) (withRows (roomMade zeroElement (p .header) (rowsOf p)) p)
 
       laid : Outcome E
-      laid = outcome (kept (indexGiven eq zeroElement p) (labelGiven p) (laidHow eq (p .header) (roomMade zeroElement (p .header) (rowsOf p)) (rowOf p point))) (keptAfter eq zeroElement p point code)
+      laid = outcome (kept (indexGiven p) (labelGiven p) (laidHow eq (p .header) (roomMade zeroElement (p .header) (rowsOf p)) (rowOf p point))) (keptAfter eq (roomMade zeroElement (p .header) (rowsOf p)) (rowOf p point) p point code)
 
       choose : (b : Bool) → cond b made laid .answer ≡ refused n → (n ≡ 10) × (cond b made laid .after ≡ withRows (roomMade zeroElement (p .header) (rowsOf p)) p)
       choose true q = (cc, refl)

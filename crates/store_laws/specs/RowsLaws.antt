@@ -43,6 +43,8 @@ with-rows p r w g e =
       rows = g;
       points = w .points;
       empty-is = λ i h. w .empty-is i h ∙ e i h;
+      sequence-most = w .sequence-most;
+      counts-most = w .counts-most;
       labels = w .labels;
     }
 

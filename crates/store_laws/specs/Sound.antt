@@ -15,14 +15,14 @@ use Rattle.interval_store_manager.specs.Sound.{sound as managerSound}
 use Rattle.placement.specs.Places.{Live, WellPlaced, Distinct}
 use Rattle.labels.specs.Classes.{AtMostNine, reason-rule, rule-most}
 use Rattle.labels.specs.Counted.{Counted, countAt}
-use Rattle.labels.specs.CountedLaws.{WellCounted, well-counted, well-counted-make, beq-same, same-beq}
+use Rattle.labels.specs.CountedLaws.{WellCounted, well-counted, managed-make, free-make, counts-fit, counts-fit-make, beq-same, same-beq}
 use Rattle.labels.specs.Labels.{labelsWell}
 use Rattle.labels.specs.Sound.{Sound as LabelsSound, sound as labels-sound, sound-make as labels-sound-make}
 use Rattle.store_definitions.specs.declared.Store.{Store}
 use Rattle.store_definitions.specs.Memory.{Memory, PointStore}
 use Rattle.store_definitions.specs.Parts.{baseOf, tableLength, Rows, rowsOf, pointTable, labelHalf}
 use Rattle.store_definitions.specs.Bounds.{rotationAllowed, labelsLent}
-use Rattle.store_definitions.specs.WellFormed.{classTable, freeStartWell, pointsWell, wellFormed}
+use Rattle.store_definitions.specs.WellFormed.{classTable, tableLengthWell, storeLengthWell, freeStartWell, emptyUncounted, sequenceWell, wellFormed}
 use Rattle.store_laws.specs.Cases.{asked, asked-make}
 use Rattle.store_laws.specs.BoundsLaws.{InBounds, in-bounds, in-bounds-make, shaped}
 use Rattle.store_laws.specs.LentLaws.{PointsLent, LabelsLent, labels-are-lent-make, lent, lent-make}
@@ -71,6 +71,8 @@ module _ {E : Type 0} where
     pub points : WellCounted (tableLength (p .header)) (pointTable p)
     -- count 0 exactly at an empty place
     pub empty-is : (i : ℕ) → i < tableLength (p .header) → eqb (countAt (pointTable p) i) 0 ≡ eqb (getD (p .memory .location) i 65535) 65535
+    pub sequence-most : p .header .«next_sequence_index» ≤ 4294967295
+    pub counts-most : (i : ℕ) → i < tableLength (p .header) → countAt (pointTable p) i ≤ 65535
     pub labels : p .header .«store_labels» ≡ true → LabelsSound classTable (p .header .capacity) (labelHalf p)
 
   -- what is lent for the labels follows from the label half
@@ -107,7 +109,7 @@ module _ {E : Type 0} where
     emptyAt i = Bool·beq (eqb (getD (m .referenceCount) i 0) 0) (eqb (getD (m .location) i 65535) 65535)
 
     pub sound : wellFormed p ≡ true → Sound p
-    unfolding wellFormed freeStartWell pointsWell emptyAt
+    unfolding wellFormed tableLengthWell storeLengthWell freeStartWell emptyUncounted sequenceWell emptyAt
     sound e =
         let p1 = both _ _ e in
         let p2 = both _ _ (p1 .1) in
@@ -116,16 +118,19 @@ module _ {E : Type 0} where
         let p5 = both _ _ (p4 .1) in
         let p6 = both _ _ (p5 .1) in
         let p7 = both _ _ (p6 .1) in
+        let p8 = both _ _ (p7 .1) in
+        let p9 = both _ _ (p8 .1) in
+        let p10 = both _ _ (p9 .1) in
+        let p11 = both _ _ (p10 .1) in
+        let p12 = both _ _ (p11 .1) in
+        let p13 = both _ _ (p12 .1) in
         let l = lent (s .capacity) m (s .dimensions) (s .«store_labels») (p3 .0) in
         let f1 = both _ _ (p6 .0) in
         let f2 = both _ _ (f1 .1) in
-        let q1 = both _ _ (p7 .0) in
-        let q2 = both _ _ (q1 .1) in
-        let q3 = both _ _ (q2 .1) in
         let b = in-bounds (s .dimensions) (s .«shingle_size») (s .capacity) (p1 .0) in
         let floats : s .capacity * s .dimensions ≤ length (m .store) = l .floats-lent in
         let places : s .capacity ≤ length (m .location) = l .places-lent in
-        let table : n ≤ s .capacity = leb-true n (s .capacity) (p4 .0) in
+        let table : n ≤ s .capacity = leb-true n (s .capacity) (both (leb 1 n) (leb n (s .capacity)) (p4 .0) .1) in
         let within : s .«store_length» ≤ s .capacity * s .dimensions = leb-true (s .«store_length») (s .capacity * s .dimensions) (p5 .0) in
         let inside : s .«start_free_region» ≤ s .«store_length» = leb-true (s .«start_free_region») (s .«store_length») (f2 .1) in
         let small = free-small (s .dimensions) (s .«shingle_size») (s .capacity) (s .«start_free_region») (s .«store_length») (length (m .store)) b inside within floats in
@@ -145,19 +150,21 @@ module _ {E : Type 0} where
               shaped = shaped (s .dimensions) (s .«shingle_size») (s .capacity) b;
               small = small .0;
               inside = small .1;
-              ends = ends n (m .location) (le-trans table places) s (q3 .1);
+              ends = ends n (m .location) (le-trans table places) s (p10 .0);
             };
-            distinct-places = distinct n (m .location) (le-trans table places) (q3 .0);
+            distinct-places = distinct n (m .location) (le-trans table places) (p9 .0);
           };
-          points = well-counted n (pointTable p) (q1 .0);
+          points = well-counted n (pointTable p) (p11 .0) (le-trans table (l .points-lent .counts-lent)) (p7 .0);
           empty-is = λ i h.
               beq-same (eqb (getD (m .referenceCount) i 0) 0) (eqb (getD (m .location) i 65535) 65535)
-              (every-at n emptyAt (q2 .0) i h);
-          labels = λ on. labels-sound classTable (s .capacity) (labelHalf p) (asked (s .«store_labels») (labelsWell classTable (s .capacity) (labelHalf p)) (p7 .1) on);
+              (every-at n emptyAt (p8 .0) i h);
+          sequence-most = leb-true (s .«next_sequence_index») 4294967295 (p12 .0);
+          counts-most = counts-fit n (m .referenceCount) (p13 .0);
+          labels = λ on. labels-sound classTable (s .capacity) (labelHalf p) (asked (s .«store_labels») (labelsWell classTable (s .capacity) (labelHalf p)) (p13 .1) on);
         }
 
     pub sound-make : Sound p → wellFormed p ≡ true
-    unfolding wellFormed freeStartWell pointsWell emptyAt
+    unfolding wellFormed tableLengthWell storeLengthWell freeStartWell emptyUncounted sequenceWell emptyAt
     sound-make w =
         let r = w .rows in
         let free = s .«start_free_region» in
@@ -166,19 +173,23 @@ module _ {E : Type 0} where
         (and-make _ _
         (lent-make (s .capacity) m (s .dimensions) (s .«store_labels»)
         (record { floats-lent = r .floats-lent; places-lent = r .places-lent; points-lent = w .lent; labels-lent = λ on. labels-lent-of (s .capacity) p (w .labels on) }))
-        (and-make _ _ (le-leb n (s .capacity) (w .table-within))
+        (and-make _ _
+        (and-make _ _ (le-leb 1 n (managerSound (s .«index_manager») (m .indexStarts) (m .indexEnds) (w .points .managed) .least))
+        (le-leb n (s .capacity) (w .table-within)))
         (and-make _ _ (le-leb (s .«store_length») (s .capacity * s .dimensions) (r .store-within))
         (and-make _ _
         (and-make _ _ (eq-eqb (free % baseOf s) 0 (mod-eq-zero-of-dvd (baseOf s) (r .free-whole)))
         (and-make _ _ (started-make free (s .dimensions) (r .free-started)) (le-leb free (s .«store_length») (r .free-inside))))
-        (and-make _ _
-        (and-make _ _ (well-counted-make n (pointTable p) (w .points))
+        (and-make _ _ (free-make n (pointTable p) (w .points))
         (and-make _ _
         (every-make n emptyAt
         (λ i h. same-beq (eqb (getD (m .referenceCount) i 0) 0) (eqb (getD (m .location) i 65535) 65535) (w .empty-is i h)))
         (and-make _ _ (distinct-make n (m .location) (omega (arith, r .places-lent, w .table-within)) (r .distinct-places))
-        (ends-make n (m .location) (omega (arith, r .places-lent, w .table-within)) s (r .well-placed .ends)))))
-        (asked-make (s .«store_labels») (labelsWell classTable (s .capacity) (labelHalf p)) (λ on. labels-sound-make classTable (s .capacity) (labelHalf p) (w .labels on)))))))))
+        (and-make _ _ (ends-make n (m .location) (omega (arith, r .places-lent, w .table-within)) s (r .well-placed .ends))
+        (and-make _ _ (managed-make n (pointTable p) (w .points))
+        (and-make _ _ (le-leb (s .«next_sequence_index») 4294967295 (w .sequence-most))
+        (and-make _ _ (counts-fit-make n (m .referenceCount) (w .counts-most))
+        (asked-make (s .«store_labels») (labelsWell classTable (s .capacity) (labelHalf p)) (λ on. labels-sound-make classTable (s .capacity) (labelHalf p) (w .labels on)))))))))))))))
 
     -- an index with a count has a point, which ends at most at the free start; so its place is not the empty one
     module _ (w : Sound p) (i : ℕ) (h : i < n) (u : 0 < getD (m .referenceCount) i 0) where

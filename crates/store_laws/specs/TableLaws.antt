@@ -64,6 +64,7 @@ pub record Ready {E : Type 0} (p : PointStore E) (n : ℕ) (t : Counted) (locati
   pub places-length : length location ≡ length (p .memory .location)
   pub none-new : NoneNew (tableLength (p .header)) (p .memory .location) n location
   pub empty-is : (i : ℕ) → i < n → eqb (countAt t i) 0 ≡ eqb (getD location i 65535) 65535
+  pub counts-most : (i : ℕ) → i < n → countAt t i ≤ 65535
 
 module _ {E : Type 0} (p : PointStore E) (w : Sound p) where
   abbrev n : ℕ
@@ -82,6 +83,7 @@ module _ {E : Type 0} (p : PointStore E) (w : Sound p) where
         places-length = refl;
         none-new = λ i l d. (l, refl);
         empty-is = w .empty-is;
+        counts-most = w .counts-most;
       }
 
   module _ (longer : ℕ) (l : n < longer) (m : longer ≤ p .header .capacity) where
@@ -141,5 +143,10 @@ module _ {E : Type 0} (p : PointStore E) (w : Sound p) where
               elim (decLt i n) [
                 | yes b ↦ rw (before i 65535 b, filled-before n longer 0 (t .counts) (omega arith) counts-lent i 0 b) (w .empty-is i b)
                 | no b ↦ rw (new i 65535 (omega arith) h, filled-new n longer 0 (t .counts) (omega arith) counts-lent i 0 (omega arith) h)
+              ];
+          counts-most = λ i h.
+              elim (decLt i n) [
+                | yes b ↦ rw (filled-before n longer 0 (t .counts) (omega arith) counts-lent i 0 b) (w .counts-most i b)
+                | no b ↦ rw (filled-new n longer 0 (t .counts) (omega arith) counts-lent i 0 (omega arith) h) (omega arith)
               ];
         }

@@ -12,14 +12,14 @@ use Rattle.labels.specs.Decisions.{none, inUse, incDecided, decDecided}
 use Rattle.labels.specs.Readings as reading
 use Rattle.store_definitions.specs.Memory.{PointStore}
 use Rattle.store_definitions.specs.Answers.{refused, refusedAfter}
-use Rattle.store_definitions.specs.Parts.{baseOf, rowsOf, withRows}
+use Rattle.store_definitions.specs.Parts.{rowsOf, withRows}
 use Rattle.store_definitions.specs.Decisions.{andThen, refuseIf, reads, writes, formDecided, live, touchDecided}
 use Rattle.store_definitions.specs.Counting.{Pairing, incTest, decTest, incremented, decremented, incSpec, decSpec, pairDecided, adjustSpec, countSpec, liveNumberSpec, freeStartSpec}
-use Rattle.store_definitions.specs.Rows.{compactedRows, compactSpec, copyDecided, copySpec}
+use Rattle.store_definitions.specs.Rows.{compactedRows, compactSpec, copyDecided, copyWritten, copySpec}
 use Rattle.store_definitions.specs.Adding.{AddDecided, keep, wait, refuseAdd, addDecided, addCarriedOut, addSpec}
-use Rattle.store_definitions.specs.Sums.{Weighted, answers, isEqualSpec, itemsDecided, pointSumSpec}
-use Rattle.store_definitions.specs.Preview.{previews, previewDecided, shingledPointSpec}
-use Rattle.store_definitions.specs.IndexLists.{valueLimit, valuesBelow, upTo, indexListDecided, missingIndicesSpec, nextIndicesSpec}
+use Rattle.store_definitions.specs.Sums.{Weighted, answers, equality, isEqualSpec, itemsDecided, sumWritten, pointSumSpec}
+use Rattle.store_definitions.specs.Preview.{previews, previewDecided, previewWritten, shingledPointSpec}
+use Rattle.store_definitions.specs.IndexLists.{valueLimit, valuesBelow, nextValues, indexListDecided, indicesWritten, missingIndicesSpec, nextIndicesSpec}
 use Rattle.store_definitions.specs.LabelReadings.{told, labelSpec, attributeSpec, attributeVecSpec}
 use Rattle.store_definitions.specs.WellFormed.{wellFormed}
 use Rattle.store_laws.specs.DecisionLaws.{Never, never-go, never-then, never-if, never-unless}
@@ -99,9 +99,12 @@ module _ {E : Type 0} where
 
   -- a well-formed store
   module _ (p : PointStore E) (w : wellFormed p ≡ true) where
-    form : Never 1 (formDecided p)
+    formed : formDecided p ≡ go
     unfolding formDecided
-    form e = never-go 1 (sym (ap (λ (b : Bool). cond b go (refuse 1)) w) ∙ e)
+    formed = rw w
+
+    form : Never 1 (formDecided p)
+    form e = never-go 1 (sym formed ∙ e)
 
     -- what comes after the check
     after : (d : Decided) → Never 1 d → Never 1 (andThen (formDecided p) d)
@@ -151,41 +154,41 @@ module _ {E : Type 0} where
     unfolding copyDecided
     copy-decided-never i n =
         let wrong : Bool = not (eqb n (p .header .dimensions)) in
-        after _ (never-then 1 (touchDecided p i) (refuseIf wrong 3) (touch-never p i) (never-if 1 wrong 3 (λ z. omega arith)))
+        never-then 1 (touchDecided p i) (refuseIf wrong 3) (touch-never p i) (never-if 1 wrong 3 (λ z. omega arith))
 
     pub copy-not-one : (i : ℕ) (out : List E) → copySpec p i out .answer ≡ refused 1 → ⊥
-    unfolding copySpec
-    copy-not-one i out e = copy-decided-never i (length out) (writes-refused (copyDecided p i (length out)) out _ 1 e)
+    unfolding copySpec copyWritten
+    copy-not-one i out e = copy-decided-never i (length out) (writes-refused (copyDecided p i (length out)) out _ 1 (rw formed at e))
 
     pub equal-not-one : (eq : E → E → Bool) (i : ℕ) (point : List E) → isEqualSpec eq p i point ≡ refused 1 → ⊥
-    unfolding isEqualSpec
-    equal-not-one eq i point e = copy-decided-never i (length point) (answers-refused (copyDecided p i (length point)) _ 1 e)
+    unfolding isEqualSpec equality
+    equal-not-one eq i point e = copy-decided-never i (length point) (answers-refused (copyDecided p i (length point)) _ 1 (rw formed at e))
 
     pub sum-not-one : {S : Type 0} (add : ℕ → List S → List E → List S) (zeroSum : S) (ws : List Weighted) (out : List S) → pointSumSpec add zeroSum p ws out .answer ≡ refused 1 → ⊥
-    unfolding pointSumSpec
+    unfolding pointSumSpec sumWritten
     sum-not-one add zeroSum ws out e =
         let wrong : Bool = not (eqb (length out) (p .header .dimensions)) in
-        after (andThen (refuseIf wrong 3) (itemsDecided p ws)) (never-then 1 (refuseIf wrong 3) (itemsDecided p ws) (never-if 1 wrong 3 (λ z. omega arith)) (items-never p ws))
-        (writes-refused _ out _ 1 e)
+        never-then 1 (refuseIf wrong 3) (itemsDecided p ws) (never-if 1 wrong 3 (λ z. omega arith)) (items-never p ws)
+        (writes-refused _ out _ 1 (rw formed at e))
 
     pub preview-not-one : (point out : List E) → shingledPointSpec p point out .answer ≡ refused 1 → ⊥
-    unfolding shingledPointSpec previewDecided
+    unfolding shingledPointSpec previewWritten previewDecided
     preview-not-one point out e =
         let s = p .header in
         let wrong : Bool = not (cond (previews s (length point)) (s .«internal_shingling») (eqb (length point) (s .dimensions)) && eqb (length out) (s .dimensions)) in
-        after (refuseIf wrong 3) (never-if 1 wrong 3 (λ z. omega arith)) (writes-refused _ out _ 1 e)
+        never-if 1 wrong 3 (λ z. omega arith) (writes-refused _ out _ 1 (rw formed at e))
 
     pub missing-not-one : (lookAhead : ℕ) (values out : List ℕ) → missingIndicesSpec p lookAhead values out .answer ≡ refused 1 → ⊥
-    unfolding missingIndicesSpec indexListDecided
+    unfolding missingIndicesSpec indicesWritten indexListDecided
     missing-not-one lookAhead values out e =
         let wrong : Bool = not (eqb (length out) (length values)) in
         let large : Bool = ltb 65535 lookAhead || not (valuesBelow (valueLimit (p .header)) values) in
-        after (andThen (refuseIf wrong 3) (refuseIf large 11)) (never-then 1 (refuseIf wrong 3) (refuseIf large 11) (never-if 1 wrong 3 (λ z. omega arith)) (never-if 1 large 11 (λ z. omega arith)))
-        (writes-refused _ out _ 1 e)
+        never-then 1 (refuseIf wrong 3) (refuseIf large 11) (never-if 1 wrong 3 (λ z. omega arith)) (never-if 1 large 11 (λ z. omega arith))
+        (writes-refused _ out _ 1 (rw formed at e))
 
     pub next-not-one : (lookAhead : ℕ) (out : List ℕ) → nextIndicesSpec p lookAhead out .answer ≡ refused 1 → ⊥
     unfolding nextIndicesSpec
-    next-not-one lookAhead out e = missing-not-one lookAhead (upTo (baseOf (p .header)) []) out e
+    next-not-one lookAhead out e = missing-not-one lookAhead (nextValues (p .header)) out e
 
     pub label-not-one : (l : ℕ) → labelSpec p l ≡ refused 1 → ⊥
     unfolding labelSpec reading.labelSpec

@@ -59,6 +59,6 @@ module _ {E : Type 0} (p : PointStore E) (point : List E) (w : Sound p) (sized :
       (λ on. length-take-le dims (windowAfter p point) window-length)
       (λ off. sized ∙ length-off (p .header) off)
 
-  pub sequenced-sound : Sound (sequenced p point)
+  pub sequenced-sound : (p .header .«next_sequence_index» ≡ 4294967295 → ⊥) → Sound (sequenced p point)
   unfolding sequenced
-  sequenced-sound = with-window p w (windowAfter p point) (p .header .«next_sequence_index» + 1) window-length
+  sequenced-sound d = with-window p w (windowAfter p point) (p .header .«next_sequence_index» + 1) window-length (omega (arith, w .sequence-most))

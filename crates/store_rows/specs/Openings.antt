@@ -10,7 +10,6 @@ use lib.Seq.{take-all}
 use lib.Dec.{leb}
 use borrow.Author.Tests.{le-leb, lt-leb, leb-true}
 use Rattle.terms.specs.Below.{both}
-use Rattle.terms.specs.Refusals.{number}
 use Rattle.interval_store_manager.specs.Answers.{Opening}
 use Rattle.interval_store_manager.specs.Calls.{go, refuse, manager, newSpec}
 use Rattle.interval_store_manager.specs.WellFormed.{capacityAllowed, lentEnough as stackLent}
@@ -22,23 +21,13 @@ use Rattle.labels.specs.Opening.{labelsOpened, Openable}
 use Rattle.label_opening.specs.OpeningLaws.{LabelsOpenable}
 use Rattle.store_definitions.specs.declared.Store.{Store}
 use Rattle.store_definitions.specs.declared.Shape.{Shape}
-use Rattle.store_definitions.specs.declared.Done.{Done}
-use Rattle.store_definitions.specs.declared.Done.the-variants as atDone
-use Rattle.store_definitions.specs.declared.DoneResult.{DoneResult}
 use Rattle.store_definitions.specs.Memory.{Memory, PointStore, pointStore}
+use Rattle.store_definitions.specs.Answers.{done, refused, outcome}
 use Rattle.store_definitions.specs.Bounds.{boundsHold, startAllowed, labelsLent, lentEnough}
 use Rattle.store_definitions.specs.Parts.{labelHalf, withLabels}
-use Rattle.store_definitions.specs.Opening.{openDecided, freshRecord, filledFirst, openedMemory, opened, OpenOutcome, opens, refuses, openSpec}
+use Rattle.store_definitions.specs.Opening.{openDecided, freshRecord, filledFirst, openedMemory, noRecord, opened, openSpec}
 use Rattle.store_laws.specs.BoundsLaws.{InBounds, in-bounds, start-allowed}
 use Rattle.interval_store_manager.specs.DecisionLaws.{no-go}
-
--- what an opening's answer stands for, with the memory after it; the record of a refused one plays no part
-abbrev pub openedAs : Done → Store → Memory ℕ → OpenOutcome ℕ
-openedAs atDone.Done s m = opens (pointStore s m)
-openedAs (atDone.Refused k) s m = refuses (number k) m
-
-abbrev pub openMeans : DoneResult → Memory ℕ → OpenOutcome ℕ
-openMeans r m = openedAs (r .answer) (r .store) m
 
 -- a run filled from the first entry on
 pub filled-first : {X : Type 0} (x : X) (n : ℕ) (xs : List X) → filled x 0 n xs ≡ filledFirst n x xs
@@ -264,10 +253,10 @@ module _ (h : Shape) (m : Memory ℕ) where
       go true = refl
       go false = refl
 
-  pub open-done : (s : Store) (p : Points) (l : Labels) → openDecided h m ≡ go → s ≡ freshRecord h → p ≡ pointsOpened h (pointsOf m) → l ≡ labelsOpenedIf (h .«store_labels») c (labelsOf c m) → opens (pointStore s (assembled p l)) ≡ openSpec 0 h m
+  pub open-done : (s : Store) (p : Points) (l : Labels) → openDecided h m ≡ go → s ≡ freshRecord h → p ≡ pointsOpened h (pointsOf m) → l ≡ labelsOpenedIf (h .«store_labels») c (labelsOf c m) → outcome done (pointStore s (assembled p l)) ≡ openSpec 0 h m
   unfolding openSpec
-  open-done s p l d e f g = rw (d, e, f, g) (ap (λ (q : PointStore ℕ). opens q) parts-opened)
+  open-done s p l d e f g = rw (d, e, f, g) (ap (λ (q : PointStore ℕ). outcome done q) parts-opened)
 
-  pub open-refused : (n : ℕ) → openDecided h m ≡ refuse n → refuses n m ≡ openSpec 0 h m
+  pub open-refused : (n : ℕ) (s : Store) → openDecided h m ≡ refuse n → s ≡ noRecord → outcome (refused n) (pointStore s m) ≡ openSpec 0 h m
   unfolding openSpec
-  open-refused n d = rw d
+  open-refused n s d e = rw (d, e)

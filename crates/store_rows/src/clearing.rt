@@ -11,10 +11,8 @@ use interval_store_manager::IntervalStoreManager;
 use placement_rows::fill;
 use placement_rows::fill_table;
 use store_definitions::Shape;
+use terms::EMPTY_PLACE;
 use terms::FloatBits;
-
-// The place of an index that has no point.
-const EMPTY: u16 = 65535;
 
 // A manager's stack with all indices free. Under what is required the manager's own opening refuses nothing.
 fn open_stack(capacity: usize, starts: &mut [u16], ends: &mut [u16])
@@ -40,7 +38,7 @@ pub fn open_points(
     fill(store, 0, start * shape.dimensions, 0);
     fill(last_known_shingle, 0, shape.dimensions, 0);
     fill_table(reference_count, 0, start, 0);
-    fill_table(location, 0, start, EMPTY);
+    fill_table(location, 0, start, EMPTY_PLACE);
     open_stack(start, index_starts, index_ends);
 }
 

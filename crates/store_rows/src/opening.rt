@@ -4,10 +4,12 @@ ghost use mathlib.Core.Path.{_≡_};
 ghost use Prim.Native.Nat.{_*_, _≤_};
 ghost use Rattle.interval_store_manager.specs.Calls.{decisionMeans};
 ghost use Rattle.labels.specs.Forms.{entered as labelsEntered};
+ghost use Rattle.store_definitions.specs.Answers.{doneMeans, outcome};
 ghost use Rattle.store_definitions.specs.Bounds.{boundsHold, lentEnough};
 ghost use Rattle.store_definitions.specs.Lent.{entered, left};
-ghost use Rattle.store_definitions.specs.Opening.{freshRecord, openDecided, openSpec};
-ghost use Rattle.store_rows.specs.Openings.{labelManagers, labelsLentIf, openMeans};
+ghost use Rattle.store_definitions.specs.Memory.{pointStore};
+ghost use Rattle.store_definitions.specs.Opening.{freshRecord, noRecord, openDecided, openSpec};
+ghost use Rattle.store_rows.specs.Openings.{labelManagers, labelsLentIf};
 use crate::clearing::open_labels;
 use crate::clearing::open_points;
 use interval_store_manager::Decision;
@@ -174,8 +176,10 @@ fn fresh_record(shape: Shape) -> Store
     }
 }
 
-// What a refused opening gives in place of a record.
-fn no_record() -> Store {
+// The record of zeros, which a refused opening gives: every call refuses it as ill-formed.
+pub fn no_record() -> Store
+    ensures { λ r. ⌜ r ≡ noRecord ⌝ }
+{
     let none = IntervalStoreManager {
         capacity: 0,
         last_in_use: 0,
@@ -214,7 +218,7 @@ pub fn open(
     attribute_starts: &mut [u16],
     attribute_ends: &mut [u16],
 ) -> DoneResult
-    ensures { λ r. ⌜ openMeans r (left store «last_known_shingle» «reference_count» location «index_starts» «index_ends» labels «label_attributes» «label_count» «label_starts» «label_ends» attributes «attribute_count» «attribute_starts» «attribute_ends») ≡ openSpec 0 shape (entered store «last_known_shingle» «reference_count» location «index_starts» «index_ends» labels «label_attributes» «label_count» «label_starts» «label_ends» attributes «attribute_count» «attribute_starts» «attribute_ends») ⌝ }
+    ensures { λ r. ⌜ outcome (doneMeans (r .answer)) (pointStore (r .store) (left store «last_known_shingle» «reference_count» location «index_starts» «index_ends» labels «label_attributes» «label_count» «label_starts» «label_ends» attributes «attribute_count» «attribute_starts» «attribute_ends»)) ≡ openSpec 0 shape (entered store «last_known_shingle» «reference_count» location «index_starts» «index_ends» labels «label_attributes» «label_count» «label_starts» «label_ends» attributes «attribute_count» «attribute_starts» «attribute_ends») ⌝ }
 {
     let d = opening_decision(
         shape,

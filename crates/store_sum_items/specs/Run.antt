@@ -13,16 +13,16 @@ use lib.Seq.{drop-cons}
 use borrow.Author.Tests.{eq-eqb, eqb-true, eqb-false, lt-ltb, le-ltb, ltb-true, ltb-false}
 use Rattle.interval_store_manager.specs.Calls.{Decided, go, refuse}
 use Rattle.store_definitions.specs.declared.Item.{Item}
-use Rattle.store_definitions.specs.Memory.{PointStore, pointStore}
+use Rattle.store_definitions.specs.Memory.{PointStore, pointStore, rowsAlone}
 use Rattle.store_definitions.specs.Answers.{Answer, done, refused, Output, output}
 use Rattle.store_definitions.specs.Decisions.{andThen, writes}
-use Rattle.store_definitions.specs.Sums.{Weighted, itemsDecided, storedRow, summed, pointSumSpec}
+use Rattle.store_definitions.specs.Sums.{Weighted, itemsDecided, storedRow, summed, sumWritten, pointSumSpec}
 use Rattle.store_definitions.specs.WellFormed.{wellFormed}
 use Rattle.store_laws.specs.DecisionLaws.{both-go}
 use Rattle.store_rows.specs.Copying.{readable}
 use Rattle.store_counts.specs.ReadingLaws.{well}
 use Rattle.store_counts.specs.Tables.{countsAlone}
-use Rattle.row_readings.specs.Items.{rowsAlone, Addable}
+use Rattle.row_readings.specs.Items.{Addable}
 use Rattle.store_laws.specs.IllFormedLaws.{sum-ill}
 use Rattle.row_readings.specs.SumLaws.{items-alone, first-decided, first-added, addable, sum-checked, sum-length}
 use Rattle.store_sum_items.specs.Records.{weightingOf, weightingsOf}
@@ -105,7 +105,7 @@ module _ {E S : Type 0} (add : ℕ → List S → List E → List S) (zeroSum : 
 
   module _ (e : wellFormed p ≡ true) (l : length out₀ ≡ p .header .dimensions) where
     all-ahead : ahead false 0 out₀ ≡ spec
-    unfolding pointSumSpec
+    unfolding pointSumSpec sumWritten
     all-ahead = rw (well p e, eq-eqb (length out₀) (p .header .dimensions) l)
 
     none-ahead : (ys : List Item) → length ys ≡ 0 → writes (itemsDecided p (weightingsOf ys)) out₀ (summed add p (weightingsOf ys) zeros) ≡ output done zeros
@@ -245,7 +245,7 @@ module _ {E S : Type 0} (add : ℕ → List S → List E → List S) (zeroSum : 
       abbrev pub turn : SumState S
       turn =
           turned zeroSum adds i n (itemsDecided (pointStore (p .header) (countsAlone (p .memory .referenceCount) [])) (this ∷ []))
-          (add (this .weight) out (storedRow (pointStore (p .header) (rowsAlone (p .memory .store) (p .memory .location))) (this .index))) out
+          (add (this .weight) out (storedRow (pointStore (p .header) (rowsAlone (p .memory .store) [] (p .memory .location))) (this .index))) out
 
       pub went-on : length out ≡ length out₀ → (t : SumState S) → t ≡ turn → Standing t
       unfolding storedRow

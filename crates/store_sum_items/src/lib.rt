@@ -14,10 +14,10 @@ ghost use Rattle.float_bits.specs.Words.{floatOf, plusZero};
 ghost use Rattle.store_counts.specs.Tables.{countsAlone};
 ghost use Rattle.store_definitions.specs.Answers.{doneMeans, output};
 ghost use Rattle.store_definitions.specs.Lent.{entered};
-ghost use Rattle.store_definitions.specs.Memory.{pointStore};
+ghost use Rattle.store_definitions.specs.Memory.{pointStore, rowsAlone};
 ghost use Rattle.store_definitions.specs.Sums.{itemsDecided, storedRow, pointSumSpec};
 ghost use Rattle.store_definitions.specs.WellFormed.{wellFormed};
-ghost use Rattle.row_readings.specs.Items.{weighted, rowsAlone, Addable};
+ghost use Rattle.row_readings.specs.Items.{weighted, Addable};
 ghost use Rattle.store_sum_items.specs.Records.{weightingsOf};
 ghost use Rattle.store_sum_items.specs.Steps.{refusedStep, goingStep, stateOf, begun, turned};
 use interval_store_manager::Decision;
@@ -127,7 +127,7 @@ pub fn next_step(
     out: &mut [f32],
 ) -> SumStep
     requires { ⌜ (next < count) × ((adds ≡ true → (length (now out) ≡ s .dimensions) × Addable s (length (now store)) (now location) (weighted index weight))) ⌝ }
-    ensures { λ r. ⌜ stateOf r (now (out .exit)) ≡ turned (floatOf plusZero) adds next count (itemsDecided (pointStore s (countsAlone (now («reference_count» .entry)) [])) (weighted index weight ∷ [])) (addScaled weight (now (out .entry)) (storedRow (pointStore s (rowsAlone (now (store .entry)) (now (location .entry)))) index)) (now (out .entry)) ⌝ }
+    ensures { λ r. ⌜ stateOf r (now (out .exit)) ≡ turned (floatOf plusZero) adds next count (itemsDecided (pointStore s (countsAlone (now («reference_count» .entry)) [])) (weighted index weight ∷ [])) (addScaled weight (now (out .entry)) (storedRow (pointStore s (rowsAlone (now (store .entry)) [] (now (location .entry)))) index)) (now (out .entry)) ⌝ }
 {
     if adds {
         add_item(s, store, location, index, weight, out);

@@ -33,6 +33,9 @@ pub type FloatBits = u32;
 // What document 01 calls none: the index that no point and no label has.
 pub const NONE: usize = 0xffff_ffff_ffff_ffff;
 
+// The place of an index that has no point.
+pub const EMPTY_PLACE: u16 = 65535;
+
 // Document 01's number of a refusal.
 pub fn refusal_number(r: Refusal) -> u64
     ensures { λ n. ⌜ n ≡ number r ⌝ }

@@ -44,7 +44,7 @@ pub fn pairs() {
     let c = list_adjusted(b, &refused[..]);
     let accepted = [[2, NONE, 3, NONE], [2, NONE, NONE, NONE]];
     text(b"  +2 -3, +2: ");
-    list_adjusted(c, &accepted[..]);
+    let d = list_adjusted(c, &accepted[..]);
     text(b"  no pair: ");
-    list_adjusted(c, &accepted[..0]);
+    list_adjusted(d, &accepted[..0]);
 }

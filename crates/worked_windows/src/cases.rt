@@ -1,4 +1,4 @@
-// Document 01's worked windows, case by case. With labels off an add's code is not looked at, and the label index is none.
+// The worked windows, case by case. With labels off an add's code is not looked at, and the label index is none.
 use crate::print::added;
 use crate::print::answer;
 use crate::print::done;
@@ -18,13 +18,41 @@ use block::open_block;
 use store_definitions::Shape;
 use terms::NONE;
 
+// A new store, and a line that says so with its shape.
+pub fn new_store(shape: Shape) -> Block {
+    let r = open_block(shape);
+    text(b"  new store: dimensions ");
+    number(shape.dimensions);
+    text(b", shingle size ");
+    number(shape.shingle_size);
+    text(b", capacity ");
+    number(shape.capacity);
+    text(b", start ");
+    number(shape.initial_capacity);
+    if shape.internal_shingling {
+        text(b", internal shingling");
+    }
+    if shape.internal_rotation {
+        text(b", rotation");
+    }
+    if shape.store_labels {
+        text(b", labels");
+    }
+    text(b": ");
+    let d = r.answer;
+    done(d);
+    text(b"\n");
+    let b = r.block;
+    b
+}
+
 pub fn opened(
     internal_shingling: bool,
     internal_rotation: bool,
     capacity: usize,
     initial_capacity: usize,
 ) -> Block {
-    let shape = Shape {
+    new_store(Shape {
         dimensions: 4,
         shingle_size: 2,
         capacity,
@@ -32,14 +60,7 @@ pub fn opened(
         internal_shingling,
         internal_rotation,
         store_labels: false,
-    };
-    let r = open_block(shape);
-    let d = r.answer;
-    text(b"  open: ");
-    done(d);
-    text(b"\n");
-    let b = r.block;
-    b
+    })
 }
 
 // An add of two floats, with internal shingling.
@@ -113,58 +134,88 @@ pub fn five_adds(b: Block) -> Block {
 }
 
 pub fn without_rotation() {
-    text(b"A to E: capacity 10, start 5\n");
+    text(b"A to E\n");
     let b = five_adds(opened(true, false, 10, 5));
     let d = compacted(dec_one(dec_one(b, 0), 1));
     copied(d, 2);
     copied(add_two(d, 11, 12), 0);
-    text(b"G without rotation: dec 0, compact\n");
-    compacted(dec_one(b, 0));
 }
 
 pub fn rotating() {
-    text(b"F: rotating\n");
-    let b = opened(true, true, 10, 5);
-    let c = add_two(add_two(add_two(b, 1, 2), 3, 4), 5, 6);
+    text(b"F\n");
+    let f = opened(true, true, 10, 5);
+    let c = add_two(add_two(add_two(f, 1, 2), 3, 4), 5, 6);
     copied(c, 1);
-    text(b"G: rotating\n");
-    let g = compacted(dec_one(five_adds(b), 0));
+    text(b"G\n");
+    let g = compacted(dec_one(five_adds(opened(true, true, 10, 5)), 0));
     copied(g, 1);
     text(b"  first floats: ");
     let floats = g.floats;
     row([floats[0], floats[1], floats[2], floats[3]]);
     text(b"\n");
+    text(b"G, without rotation\n");
+    compacted(dec_one(five_adds(opened(true, false, 10, 5)), 0));
+}
+
+fn before_the_last_row() -> Block {
+    let b = add_four(add_four(opened(false, true, 2, 2), 1, 2, 3, 4), 3, 4, 5, 6);
+    dec_one(b, 0)
 }
 
 pub fn refused_for_space() {
-    text(b"H: rotating, whole rows, capacity 2, start 2\n");
-    let b = add_four(add_four(opened(false, true, 2, 2), 1, 2, 3, 4), 3, 4, 5, 6);
-    let h = dec_one(b, 0);
-    add_four(h, 9, 9, 9, 9);
+    text(b"H\n");
+    add_four(before_the_last_row(), 9, 9, 9, 9);
     text(b"H, another last row\n");
-    add_four(h, 5, 6, 9, 9);
+    add_four(before_the_last_row(), 5, 6, 9, 9);
 }
 
 pub fn small_starts() {
-    text(b"start 4, a fifth index\n");
+    text(b"start 4: no fifth index\n");
     let b = five_adds(opened(true, false, 10, 4));
     add_two(b, 11, 12);
-    text(b"start 5, a sixth index\n");
+    text(b"start 5: a sixth index\n");
     let c = five_adds(opened(true, false, 10, 5));
     let d = add_two(c, 11, 12);
     add_two(d, 1, 2);
 }
 
-// Incs until the count of index 0 is `until`.
-fn counted_up(b: Block, until: usize) -> Block {
-    let mut up = b;
-    let mut n: usize = 1;
-    while n < until {
-        let r = inc_point(up, 0, NONE);
-        up = r.block;
-        n += 1;
+// The memory is the caller's: here it is lent with another count of index 0.
+fn with_count(b: Block, count: u16) -> Block {
+    let store = b.store;
+    let floats = b.floats;
+    let window = b.window;
+    let mut counts = b.counts;
+    let places = b.places;
+    let starts = b.starts;
+    let ends = b.ends;
+    let codes = b.codes;
+    let slots = b.slots;
+    let label_counts = b.label_counts;
+    let label_starts = b.label_starts;
+    let label_ends = b.label_ends;
+    let classes = b.classes;
+    let slot_counts = b.slot_counts;
+    let slot_starts = b.slot_starts;
+    let slot_ends = b.slot_ends;
+    counts[0] = count;
+    Block {
+        store,
+        floats,
+        window,
+        counts,
+        places,
+        starts,
+        ends,
+        codes,
+        slots,
+        label_counts,
+        label_starts,
+        label_ends,
+        classes,
+        slot_counts,
+        slot_starts,
+        slot_ends,
     }
-    up
 }
 
 fn inc_one(b: Block) -> Block {
@@ -182,8 +233,8 @@ fn inc_one(b: Block) -> Block {
 pub fn largest_count() {
     text(b"count 65,534 takes inc, 65,535 gives 7\n");
     let b = add_two(add_two(opened(true, false, 10, 5), 1, 2), 3, 4);
-    let up = counted_up(b, 65534);
-    text(b"  count 0: ");
+    let up = with_count(b, 65534);
+    text(b"  memory lent with count 65534 of index 0; count: ");
     answer(count_point(up, 0));
     text(b"\n");
     inc_one(inc_one(up));

@@ -1,5 +1,5 @@
-// Runs document 01's worked windows A to H and its run-only cases on the proved store, then adjust and the other readings, and
-// prints what each call answers.
+// Runs the worked windows A to H of docs/STORE.md, cases of growth and of the largest count, adjust and the other readings on the proved
+// store, and prints what each call answers. Every case begins with a new store.
 mod adjust_cases;
 mod cases;
 mod preview_cases;

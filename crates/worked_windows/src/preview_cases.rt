@@ -73,6 +73,6 @@ fn after_c(b: Block) {
 pub fn previews() {
     text(b"shingled_point, missing_indices and next_indices\n");
     after_c(opened(true, false, 10, 5));
-    text(b"the same, rotating\n");
+    text(b"shingled_point, missing_indices and next_indices, rotating\n");
     after_c(opened(true, true, 10, 5));
 }

@@ -7,6 +7,7 @@ use store_definitions::Done;
 use store_definitions::Equality;
 use store_definitions::Kept;
 use store_definitions::Number;
+use terms::NONE;
 use terms::Refusal;
 use terms::refusal_number;
 
@@ -64,6 +65,11 @@ fn kept(k: Kept) {
     text(b"index ");
     let index = k.index;
     number(index.0);
+    let label = k.label;
+    if label.0 != NONE {
+        text(b", label index ");
+        number(label.0);
+    }
     let how = k.laid;
     laid(how);
 }

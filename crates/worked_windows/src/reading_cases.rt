@@ -1,5 +1,6 @@
 // The other readings, of small stores: what is compared and added up of rows, and what is read of labels.
 use crate::cases::add_two;
+use crate::cases::new_store;
 use crate::cases::opened;
 use crate::print::added;
 use crate::print::answer;
@@ -18,7 +19,6 @@ use block::add_row;
 use block::class_of;
 use block::code_of;
 use block::equal_point;
-use block::open_block;
 use store_definitions::Shape;
 
 // The words of −0.0 and of a NaN.
@@ -109,9 +109,22 @@ pub fn zeros_and_nans() {
     compared(c, 2, &nan[..3]);
 }
 
+fn add_with_code(b: Block, code: usize) -> Block {
+    let point = [word(1), word(2)];
+    let r = add_row(b, &point[..], code);
+    text(b"  add 1 2 with code ");
+    number(code);
+    text(b": ");
+    let a = r.answer;
+    added(a);
+    let after = r.block;
+    free(after.store.start_free_region);
+    after
+}
+
 // A store with two labels: codes 23 and 5, of the classes 9 and 2.
 fn labelled() -> Block {
-    let shape = Shape {
+    let b = new_store(Shape {
         dimensions: 2,
         shingle_size: 1,
         capacity: 3,
@@ -119,13 +132,8 @@ fn labelled() -> Block {
         internal_shingling: false,
         internal_rotation: false,
         store_labels: true,
-    };
-    let opened = open_block(shape);
-    let point = [word(1), word(2)];
-    let first = add_row(opened.block, &point[..], 23);
-    let second = add_row(first.block, &point[..], 5);
-    let b = second.block;
-    b
+    });
+    add_with_code(add_with_code(b, 23), 5)
 }
 
 fn label_read(b: Block, i: usize) {
@@ -147,7 +155,7 @@ fn label_read(b: Block, i: usize) {
 
 // The vector's 1.0 stands at the slot, not at the class.
 pub fn labels_read() {
-    text(b"label, attribute and attribute_vec: codes 23 and 5\n");
+    text(b"label, attribute and attribute_vec\n");
     let b = labelled();
     label_read(b, 0);
     label_read(b, 1);

@@ -146,12 +146,12 @@ prototypes! {
 }
 
 extern "C" {
-    fn ps_name(out: *mut u8, out_len: usize) -> u64;
+    fn ps_name(out: *mut u8, out_len: usize, name_length: &mut u64) -> u64;
 }
 
-/// The library's name; `out` is exactly as long as the text.
-pub fn name(out: &mut [u8]) -> u64 {
-    unsafe { ps_name(out.as_mut_ptr(), out.len()) }
+/// The library's name at the front of `out`, and its length.
+pub fn name(out: &mut [u8], name_length: &mut u64) -> u64 {
+    unsafe { ps_name(out.as_mut_ptr(), out.len(), name_length) }
 }
 
 // Every call lends the vectors of one store for the call alone: they are valid and do not overlap, which is all that the

@@ -3,7 +3,7 @@
 //!
 //! At the root of the repository:
 //!
-//!     rt staticlib point_store_c
+//!     make
 //!     cargo run --manifest-path examples/rust/Cargo.toml
 //!
 //! The file 'stdout' is what it prints.
@@ -41,16 +41,12 @@ const HOT: f32 = 55.0;
 type Held = (usize, usize);
 
 fn main() -> Result<()> {
-    let mut store = ProvedPointStore::new(
-        READING * SHINGLE_SIZE,
-        SHINGLE_SIZE,
-        CAPACITY,
-        INITIAL_CAPACITY,
-        true,
-        false,
-        true,
-        false,
-    )?;
+    let mut store = ProvedPointStore::builder(READING * SHINGLE_SIZE, CAPACITY)
+        .shingle_size(SHINGLE_SIZE)
+        .initial_capacity(INITIAL_CAPACITY)
+        .internal_shingling(true)
+        .labels(true)
+        .open()?;
     println!("{}", ProvedPointStore::name());
     let mut latest = Vec::new();
     let mut report = Vec::new();

@@ -1,6 +1,6 @@
 -- Each return follows from the tests that led to it.
 use borrow.Author.Tests.{le-leb, lt-leb}
-use Rattle.label_check.specs.Checks.{tablesLent}
+use Rattle.labels.specs.Labels.{tablesLent}
 use Rattle.label_check.proofs.tables_lent.Statement.{statement}
 use Rattle.label_check.proofs.tables_lent.Tie as tie
 

@@ -1,6 +1,7 @@
 -- Each way out is one of the laws of `CheckLaws`.
 use borrow.Author.Needs.{needs}
 use Prim.Native.Nat.{ℕ}
+use native.Mathlib.Omega.{arith}
 use mathlib.Core.List.{List}
 use mathlib.Core.Bool.{false≢true}
 use mathlib.Core.Path.{sym, _∙_, ap}
@@ -29,15 +30,15 @@ returns : tie.Need-returns
 returns c = (
   c .labels-well-formed .ensures
       ∙ (ap (λ (t : List ℕ). labelsOk (c .before .before .before .before .before .before .before .before .before .before .before .before .before .before .before .before .before .before .before .before .before .before .args .s .«store_labels») t (c .before .before .before .before .before .before .before .before .before .before .before .before .before .before .before .before .before .before .before .before .before .before .args .s .capacity) (labelHalf (pointStore (c .before .before .before .before .before .before .before .before .before .before .before .before .before .before .before .before .before .before .before .before .before .before .args .s) (tables (c .before .before .before .before .before .before .before .before .before .before .before .before .before .before .before .before .before .before .before .before .before .before .args .floats) (c .before .before .before .before .before .before .before .before .before .before .before .before .before .before .before .before .before .before .before .before .before .before .args .window) (c .before .before .before .before .before .before .before .before .before .before .before .before .before .before .before .before .before .before .before .before .before .before .args .reference-count) (c .before .before .before .before .before .before .before .before .before .before .before .before .before .before .before .before .before .before .before .before .before .before .args .location) (c .before .before .before .before .before .before .before .before .before .before .before .before .before .before .before .before .before .before .before .before .before .before .args .index-starts) (c .before .before .before .before .before .before .before .before .before .before .before .before .before .before .before .before .before .before .before .before .before .before .args .index-ends) (c .before .before .before .before .before .before .before .before .before .before .before .before .before .before .before .before .before .before .before .before .before .before .args .labels) (c .before .before .before .before .before .before .before .before .before .before .before .before .before .before .before .before .before .before .before .before .before .before .args .label-attributes) (c .before .before .before .before .before .before .before .before .before .before .before .before .before .before .before .before .before .before .before .before .before .before .args .label-count) (c .before .before .before .before .before .before .before .before .before .before .before .before .before .before .before .before .before .before .before .before .before .before .args .label-starts) (c .before .before .before .before .before .before .before .before .before .before .before .before .before .before .before .before .before .before .before .before .before .before .args .label-ends) (c .before .before .before .before .before .before .before .before .before .before .before .before .before .before .before .before .before .before .before .before .before .before .args .attributes) (c .before .before .before .before .before .before .before .before .before .before .before .before .before .before .before .before .before .before .before .before .before .before .args .attribute-count) (c .before .before .before .before .before .before .before .before .before .before .before .before .before .before .before .before .before .before .before .before .before .before .args .attribute-starts) (c .before .before .before .before .before .before .before .before .before .before .before .before .before .before .before .before .before .before .before .before .before .before .args .attribute-ends))))) (c .before .before .before .before .reason-classes .ensures)
-      ∙ labels-decide (pointStore (c .before .before .before .before .before .before .before .before .before .before .before .before .before .before .before .before .before .before .before .before .before .before .args .s) (tables (c .before .before .before .before .before .before .before .before .before .before .before .before .before .before .before .before .before .before .before .before .before .before .args .floats) (c .before .before .before .before .before .before .before .before .before .before .before .before .before .before .before .before .before .before .before .before .before .before .args .window) (c .before .before .before .before .before .before .before .before .before .before .before .before .before .before .before .before .before .before .before .before .before .before .args .reference-count) (c .before .before .before .before .before .before .before .before .before .before .before .before .before .before .before .before .before .before .before .before .before .before .args .location) (c .before .before .before .before .before .before .before .before .before .before .before .before .before .before .before .before .before .before .before .before .before .before .args .index-starts) (c .before .before .before .before .before .before .before .before .before .before .before .before .before .before .before .before .before .before .before .before .before .before .args .index-ends) (c .before .before .before .before .before .before .before .before .before .before .before .before .before .before .before .before .before .before .before .before .before .before .args .labels) (c .before .before .before .before .before .before .before .before .before .before .before .before .before .before .before .before .before .before .before .before .before .before .args .label-attributes) (c .before .before .before .before .before .before .before .before .before .before .before .before .before .before .before .before .before .before .before .before .before .before .args .label-count) (c .before .before .before .before .before .before .before .before .before .before .before .before .before .before .before .before .before .before .before .before .before .before .args .label-starts) (c .before .before .before .before .before .before .before .before .before .before .before .before .before .before .before .before .before .before .before .before .before .before .args .label-ends) (c .before .before .before .before .before .before .before .before .before .before .before .before .before .before .before .before .before .before .before .before .before .before .args .attributes) (c .before .before .before .before .before .before .before .before .before .before .before .before .before .before .before .before .before .before .before .before .before .before .args .attribute-count) (c .before .before .before .before .before .before .before .before .before .before .before .before .before .before .before .before .before .before .before .before .before .before .args .attribute-starts) (c .before .before .before .before .before .before .before .before .before .before .before .before .before .before .before .before .before .before .before .before .before .before .args .attribute-ends))) (c .before .before .before .before .before .before .before .before .before .before .before .before .before .before .before .before .before .before .before .before .before .before .args .floats) (c .before .before .before .before .before .before .before .before .before .before .before .before .before .before .before .before .before .before .before .before .before .before .args .window) (length-replicate {A = Unit {0}} (c .before .before .before .before .before .before .before .before .before .before .before .before .before .before .before .before .before .before .before .before .before .before .args .floats) tt) (length-replicate {A = Unit {0}} (c .before .before .before .before .before .before .before .before .before .before .before .before .before .before .before .before .before .before .before .before .before .before .args .window) tt) (sym (c .before .before .before .before .before .before .before .before .record-well .ensures) ∙ c .before .before .before .before .before .before .before .if1 .taken) (sym (c .before .before .before .before .before .before .points-well .ensures .0) ∙ c .before .before .before .before .before .if2 .taken)),
+      ∙ labels-decide (pointStore (c .before .before .before .before .before .before .before .before .before .before .before .before .before .before .before .before .before .before .before .before .before .before .args .s) (tables (c .before .before .before .before .before .before .before .before .before .before .before .before .before .before .before .before .before .before .before .before .before .before .args .floats) (c .before .before .before .before .before .before .before .before .before .before .before .before .before .before .before .before .before .before .before .before .before .before .args .window) (c .before .before .before .before .before .before .before .before .before .before .before .before .before .before .before .before .before .before .before .before .before .before .args .reference-count) (c .before .before .before .before .before .before .before .before .before .before .before .before .before .before .before .before .before .before .before .before .before .before .args .location) (c .before .before .before .before .before .before .before .before .before .before .before .before .before .before .before .before .before .before .before .before .before .before .args .index-starts) (c .before .before .before .before .before .before .before .before .before .before .before .before .before .before .before .before .before .before .before .before .before .before .args .index-ends) (c .before .before .before .before .before .before .before .before .before .before .before .before .before .before .before .before .before .before .before .before .before .before .args .labels) (c .before .before .before .before .before .before .before .before .before .before .before .before .before .before .before .before .before .before .before .before .before .before .args .label-attributes) (c .before .before .before .before .before .before .before .before .before .before .before .before .before .before .before .before .before .before .before .before .before .before .args .label-count) (c .before .before .before .before .before .before .before .before .before .before .before .before .before .before .before .before .before .before .before .before .before .before .args .label-starts) (c .before .before .before .before .before .before .before .before .before .before .before .before .before .before .before .before .before .before .before .before .before .before .args .label-ends) (c .before .before .before .before .before .before .before .before .before .before .before .before .before .before .before .before .before .before .before .before .before .before .args .attributes) (c .before .before .before .before .before .before .before .before .before .before .before .before .before .before .before .before .before .before .before .before .before .before .args .attribute-count) (c .before .before .before .before .before .before .before .before .before .before .before .before .before .before .before .before .before .before .before .before .before .before .args .attribute-starts) (c .before .before .before .before .before .before .before .before .before .before .before .before .before .before .before .before .before .before .before .before .before .before .args .attribute-ends))) (c .before .before .before .before .before .before .before .before .before .before .before .before .before .before .before .before .before .before .before .before .before .before .args .floats) (c .before .before .before .before .before .before .before .before .before .before .before .before .before .before .before .before .before .before .before .before .before .before .args .window) (length-replicate {A = Unit {0}} (c .before .before .before .before .before .before .before .before .before .before .before .before .before .before .before .before .before .before .before .before .before .before .args .floats) tt) (length-replicate {A = Unit {0}} (c .before .before .before .before .before .before .before .before .before .before .before .before .before .before .before .before .before .before .before .before .before .before .args .window) tt) (λ i. omega (arith, c .before .before .before .before .before .before .before .before .before .before .before .before .before .before .before .before .before .before .before .before .before .shared-slice-known .given i)) (sym (c .before .before .before .before .before .before .before .before .record-well .ensures) ∙ c .before .before .before .before .before .before .before .if1 .taken) (sym (c .before .before .before .before .before .before .points-well .ensures .0) ∙ c .before .before .before .before .before .if2 .taken)),
   λ e. c .before .before .before .before .before .before .points-well .ensures .1 (c .before .before .before .before .before .if2 .taken),
 )
 
 returns-2 : tie.Need-returns-2
-returns-2 c = (points-fail (pointStore (c .before .before .before .before .before .before .before .before .before .before .before .before .before .before .before .before .before .args .s) (tables (c .before .before .before .before .before .before .before .before .before .before .before .before .before .before .before .before .before .args .floats) (c .before .before .before .before .before .before .before .before .before .before .before .before .before .before .before .before .before .args .window) (c .before .before .before .before .before .before .before .before .before .before .before .before .before .before .before .before .before .args .reference-count) (c .before .before .before .before .before .before .before .before .before .before .before .before .before .before .before .before .before .args .location) (c .before .before .before .before .before .before .before .before .before .before .before .before .before .before .before .before .before .args .index-starts) (c .before .before .before .before .before .before .before .before .before .before .before .before .before .before .before .before .before .args .index-ends) (c .before .before .before .before .before .before .before .before .before .before .before .before .before .before .before .before .before .args .labels) (c .before .before .before .before .before .before .before .before .before .before .before .before .before .before .before .before .before .args .label-attributes) (c .before .before .before .before .before .before .before .before .before .before .before .before .before .before .before .before .before .args .label-count) (c .before .before .before .before .before .before .before .before .before .before .before .before .before .before .before .before .before .args .label-starts) (c .before .before .before .before .before .before .before .before .before .before .before .before .before .before .before .before .before .args .label-ends) (c .before .before .before .before .before .before .before .before .before .before .before .before .before .before .before .before .before .args .attributes) (c .before .before .before .before .before .before .before .before .before .before .before .before .before .before .before .before .before .args .attribute-count) (c .before .before .before .before .before .before .before .before .before .before .before .before .before .before .before .before .before .args .attribute-starts) (c .before .before .before .before .before .before .before .before .before .before .before .before .before .before .before .before .before .args .attribute-ends))) (c .before .before .before .before .before .before .before .before .before .before .before .before .before .before .before .before .before .args .floats) (c .before .before .before .before .before .before .before .before .before .before .before .before .before .before .before .before .before .args .window) (length-replicate {A = Unit {0}} (c .before .before .before .before .before .before .before .before .before .before .before .before .before .before .before .before .before .args .floats) tt) (length-replicate {A = Unit {0}} (c .before .before .before .before .before .before .before .before .before .before .before .before .before .before .before .before .before .args .window) tt) (sym (c .before .before .before .record-well .ensures) ∙ c .before .before .if1 .taken) (sym (c .before .points-well .ensures .0) ∙ c .if2 .left), λ e. absurd (false≢true e))
+returns-2 c = (points-fail (pointStore (c .before .before .before .before .before .before .before .before .before .before .before .before .before .before .before .before .before .args .s) (tables (c .before .before .before .before .before .before .before .before .before .before .before .before .before .before .before .before .before .args .floats) (c .before .before .before .before .before .before .before .before .before .before .before .before .before .before .before .before .before .args .window) (c .before .before .before .before .before .before .before .before .before .before .before .before .before .before .before .before .before .args .reference-count) (c .before .before .before .before .before .before .before .before .before .before .before .before .before .before .before .before .before .args .location) (c .before .before .before .before .before .before .before .before .before .before .before .before .before .before .before .before .before .args .index-starts) (c .before .before .before .before .before .before .before .before .before .before .before .before .before .before .before .before .before .args .index-ends) (c .before .before .before .before .before .before .before .before .before .before .before .before .before .before .before .before .before .args .labels) (c .before .before .before .before .before .before .before .before .before .before .before .before .before .before .before .before .before .args .label-attributes) (c .before .before .before .before .before .before .before .before .before .before .before .before .before .before .before .before .before .args .label-count) (c .before .before .before .before .before .before .before .before .before .before .before .before .before .before .before .before .before .args .label-starts) (c .before .before .before .before .before .before .before .before .before .before .before .before .before .before .before .before .before .args .label-ends) (c .before .before .before .before .before .before .before .before .before .before .before .before .before .before .before .before .before .args .attributes) (c .before .before .before .before .before .before .before .before .before .before .before .before .before .before .before .before .before .args .attribute-count) (c .before .before .before .before .before .before .before .before .before .before .before .before .before .before .before .before .before .args .attribute-starts) (c .before .before .before .before .before .before .before .before .before .before .before .before .before .before .before .before .before .args .attribute-ends))) (c .before .before .before .before .before .before .before .before .before .before .before .before .before .before .before .before .before .args .floats) (c .before .before .before .before .before .before .before .before .before .before .before .before .before .before .before .before .before .args .window) (length-replicate {A = Unit {0}} (c .before .before .before .before .before .before .before .before .before .before .before .before .before .before .before .before .before .args .floats) tt) (length-replicate {A = Unit {0}} (c .before .before .before .before .before .before .before .before .before .before .before .before .before .before .before .before .before .args .window) tt) (λ i. omega (arith, c .before .before .before .before .before .before .before .before .before .before .before .before .before .before .before .before .shared-slice-known .given i)) (sym (c .before .before .before .record-well .ensures) ∙ c .before .before .if1 .taken) (sym (c .before .points-well .ensures .0) ∙ c .if2 .left), λ e. absurd (false≢true e))
 
 returns-3 : tie.Need-returns-3
-returns-3 c = (record-fails (pointStore (c .before .before .before .before .before .before .before .before .before .before .before .before .before .before .before .args .s) (tables (c .before .before .before .before .before .before .before .before .before .before .before .before .before .before .before .args .floats) (c .before .before .before .before .before .before .before .before .before .before .before .before .before .before .before .args .window) (c .before .before .before .before .before .before .before .before .before .before .before .before .before .before .before .args .reference-count) (c .before .before .before .before .before .before .before .before .before .before .before .before .before .before .before .args .location) (c .before .before .before .before .before .before .before .before .before .before .before .before .before .before .before .args .index-starts) (c .before .before .before .before .before .before .before .before .before .before .before .before .before .before .before .args .index-ends) (c .before .before .before .before .before .before .before .before .before .before .before .before .before .before .before .args .labels) (c .before .before .before .before .before .before .before .before .before .before .before .before .before .before .before .args .label-attributes) (c .before .before .before .before .before .before .before .before .before .before .before .before .before .before .before .args .label-count) (c .before .before .before .before .before .before .before .before .before .before .before .before .before .before .before .args .label-starts) (c .before .before .before .before .before .before .before .before .before .before .before .before .before .before .before .args .label-ends) (c .before .before .before .before .before .before .before .before .before .before .before .before .before .before .before .args .attributes) (c .before .before .before .before .before .before .before .before .before .before .before .before .before .before .before .args .attribute-count) (c .before .before .before .before .before .before .before .before .before .before .before .before .before .before .before .args .attribute-starts) (c .before .before .before .before .before .before .before .before .before .before .before .before .before .before .before .args .attribute-ends))) (c .before .before .before .before .before .before .before .before .before .before .before .before .before .before .before .args .floats) (c .before .before .before .before .before .before .before .before .before .before .before .before .before .before .before .args .window) (length-replicate {A = Unit {0}} (c .before .before .before .before .before .before .before .before .before .before .before .before .before .before .before .args .floats) tt) (length-replicate {A = Unit {0}} (c .before .before .before .before .before .before .before .before .before .before .before .before .before .before .before .args .window) tt) (sym (c .before .record-well .ensures) ∙ c .if1 .left), λ e. absurd (false≢true e))
+returns-3 c = (record-fails (pointStore (c .before .before .before .before .before .before .before .before .before .before .before .before .before .before .before .args .s) (tables (c .before .before .before .before .before .before .before .before .before .before .before .before .before .before .before .args .floats) (c .before .before .before .before .before .before .before .before .before .before .before .before .before .before .before .args .window) (c .before .before .before .before .before .before .before .before .before .before .before .before .before .before .before .args .reference-count) (c .before .before .before .before .before .before .before .before .before .before .before .before .before .before .before .args .location) (c .before .before .before .before .before .before .before .before .before .before .before .before .before .before .before .args .index-starts) (c .before .before .before .before .before .before .before .before .before .before .before .before .before .before .before .args .index-ends) (c .before .before .before .before .before .before .before .before .before .before .before .before .before .before .before .args .labels) (c .before .before .before .before .before .before .before .before .before .before .before .before .before .before .before .args .label-attributes) (c .before .before .before .before .before .before .before .before .before .before .before .before .before .before .before .args .label-count) (c .before .before .before .before .before .before .before .before .before .before .before .before .before .before .before .args .label-starts) (c .before .before .before .before .before .before .before .before .before .before .before .before .before .before .before .args .label-ends) (c .before .before .before .before .before .before .before .before .before .before .before .before .before .before .before .args .attributes) (c .before .before .before .before .before .before .before .before .before .before .before .before .before .before .before .args .attribute-count) (c .before .before .before .before .before .before .before .before .before .before .before .before .before .before .before .args .attribute-starts) (c .before .before .before .before .before .before .before .before .before .before .before .before .before .before .before .args .attribute-ends))) (c .before .before .before .before .before .before .before .before .before .before .before .before .before .before .before .args .floats) (c .before .before .before .before .before .before .before .before .before .before .before .before .before .before .before .args .window) (length-replicate {A = Unit {0}} (c .before .before .before .before .before .before .before .before .before .before .before .before .before .before .before .args .floats) tt) (length-replicate {A = Unit {0}} (c .before .before .before .before .before .before .before .before .before .before .before .before .before .before .before .args .window) tt) (λ i. omega (arith, c .before .before .before .before .before .before .before .before .before .before .before .before .before .before .shared-slice-known .given i)) (sym (c .before .record-well .ensures) ∙ c .if1 .left), λ e. absurd (false≢true e))
 
 pub check-spec : {M : Type 1} → statement M
 check-spec =

@@ -6,9 +6,9 @@ use Rattle.float_bits.specs.Rows.{addScaled}
 use Rattle.float_bits.specs.Words.{floatOf, plusZero}
 use Rattle.interval_store_manager.specs.Calls.{decisionMeans}
 use Rattle.store_counts.specs.Tables.{countsAlone}
-use Rattle.store_definitions.specs.Memory.{pointStore}
+use Rattle.store_definitions.specs.Memory.{pointStore, rowsAlone}
 use Rattle.store_definitions.specs.Sums.{itemsDecided, storedRow}
-use Rattle.row_readings.specs.Items.{weighted, rowsAlone}
+use Rattle.row_readings.specs.Items.{weighted}
 use Rattle.store_sum_items.specs.StepLaws.{turn-added, turn-refused, turn-judged, turn-last}
 use Rattle.store_sum_items.proofs.next_step.Statement.{statement}
 use Rattle.store_sum_items.proofs.next_step.Tie as tie
@@ -29,7 +29,7 @@ returns : tie.Need-returns
 returns c =
     let a = c .before .before .before .before .before .before .before .before .before .before .args in
     let d = itemsDecided (pointStore (a .s) (countsAlone (a .reference-count .now) [])) (weighted (a .index) (a .weight) ∷ []) in
-    let added = addScaled (a .weight) (a .out .now) (storedRow (pointStore (a .s) (rowsAlone (a .store .now) (a .location .now))) (a .index)) in
+    let added = addScaled (a .weight) (a .out .now) (storedRow (pointStore (a .s) (rowsAlone (a .store .now) [] (a .location .now))) (a .index)) in
     turn-added (floatOf plusZero) (a .adds) (a .next) (a .count) d added (a .out .now) (c .going-step .result) (c .before .before .before .before .before .if1 .taken) _ (c .before .before .before .add-item .ensures) (c .going-step .ensures)
 
 item-test-requires : tie.Need-item-test-requires
@@ -57,7 +57,7 @@ returns-2 : tie.Need-returns-2
 returns-2 c =
     let a = c .before .before .before .before .before .before .before .before .before .before .args in
     let d = itemsDecided (pointStore (a .s) (countsAlone (a .reference-count .now) [])) (weighted (a .index) (a .weight) ∷ []) in
-    let added = addScaled (a .weight) (a .out .now) (storedRow (pointStore (a .s) (rowsAlone (a .store .now) (a .location .now))) (a .index)) in
+    let added = addScaled (a .weight) (a .out .now) (storedRow (pointStore (a .s) (rowsAlone (a .store .now) [] (a .location .now))) (a .index)) in
     turn-judged (floatOf plusZero) (a .adds) (a .next) (a .count) d added (a .out .now) (c .going-step2 .result) (c .before .before .before .before .before .if1 .left)
     (sym (c .before .before .before .before .item-test .ensures) ∙ ap decisionMeans (c .before .before .enum-told .given .1)) (c .before .if2 .taken) (c .going-step2 .ensures)
 
@@ -71,7 +71,7 @@ returns-3 : tie.Need-returns-3
 returns-3 c =
     let a = c .before .before .before .before .before .before .before .before .before .before .args in
     let d = itemsDecided (pointStore (a .s) (countsAlone (a .reference-count .now) [])) (weighted (a .index) (a .weight) ∷ []) in
-    let added = addScaled (a .weight) (a .out .now) (storedRow (pointStore (a .s) (rowsAlone (a .store .now) (a .location .now))) (a .index)) in
+    let added = addScaled (a .weight) (a .out .now) (storedRow (pointStore (a .s) (rowsAlone (a .store .now) [] (a .location .now))) (a .index)) in
     turn-refused (floatOf plusZero) (a .adds) (a .next) (a .count) d added (a .out .now) (c .refused-step .result) (c .before .before .before .before .before .if1 .left) _
     (sym (c .before .before .before .before .item-test .ensures) ∙ ap decisionMeans (c .before .before .decision .given .1)) (c .refused-step .ensures)
 
@@ -82,7 +82,7 @@ returns-4 : tie.Need-returns-4
 returns-4 c =
     let a = c .before .before .before .before .before .before .before .before .before .before .before .before .before .before .args in
     let d = itemsDecided (pointStore (a .s) (countsAlone (a .reference-count .now) [])) (weighted (a .index) (a .weight) ∷ []) in
-    let added = addScaled (a .weight) (a .out .now) (storedRow (pointStore (a .s) (rowsAlone (a .store .now) (a .location .now))) (a .index)) in
+    let added = addScaled (a .weight) (a .out .now) (storedRow (pointStore (a .s) (rowsAlone (a .store .now) [] (a .location .now))) (a .index)) in
     turn-last (floatOf plusZero) (a .adds) (a .next) (a .count) d added (a .out .now) (c .going-step3 .result) (c .before .before .before .before .before .before .before .before .before .if1 .left)
     (sym (c .before .before .before .before .before .before .before .before .item-test .ensures) ∙ ap decisionMeans (c .before .before .before .before .before .before .enum-told .given .1)) (c .before .before .before .before .before .if2 .left) _ (c .before .before .before .clear .ensures) (c .going-step3 .ensures)
 

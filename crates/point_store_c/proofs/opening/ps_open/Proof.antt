@@ -1,4 +1,5 @@
 -- A record too short is refused before the opening; else the opening decides, and its record is written.
+use Rattle.store_definitions.specs.Answers.{doneMeans}
 use Rattle.point_store_c.specs.ExportedStore.{shapeIn}
 use Rattle.point_store_c.specs.ExportedStoreLaws.{memory, open-short, open-long}
 use Rattle.point_store_c.proofs.opening.ps_open.Statement.{statement}
@@ -79,7 +80,7 @@ returns-2 c =
     let g = c .before .before .before .before .before .before .before .before .before .before .before .before .before .before .before .before .before .before .before .before .before .before .before .before .before .before .before .before .before .before .before .before .before .before .open in
     let o = c .before .before .opened-out in
     open-long (a .words .now) (h .result) (shapeIn (a .dimensions) (a .shingle-size) (a .capacity) (a .initial-capacity) (a .internal-shingling) (a .internal-rotation) (a .store-labels)) (h .ensures)
-    (memory (a .store .now) (a .last-known-shingle .now) (a .reference-count .now) (a .location .now) (a .index-starts .now) (a .index-ends .now) (a .labels .now) (a .label-attributes .now) (a .label-count .now) (a .label-starts .now) (a .label-ends .now) (a .attributes .now) (a .attribute-count .now) (a .attribute-starts .now) (a .attribute-ends .now)) (g .result .answer) (g .result .store)
+    (memory (a .store .now) (a .last-known-shingle .now) (a .reference-count .now) (a .location .now) (a .index-starts .now) (a .index-ends .now) (a .labels .now) (a .label-attributes .now) (a .label-count .now) (a .label-starts .now) (a .label-ends .now) (a .attributes .now) (a .attribute-count .now) (a .attribute-starts .now) (a .attribute-ends .now)) (doneMeans (g .result .answer)) (g .result .store)
     (memory (g .last .1 .0) (g .last .1 .1 .0) (g .last .1 .1 .1 .0) (g .last .1 .1 .1 .1 .0) (g .last .1 .1 .1 .1 .1 .0) (g .last .1 .1 .1 .1 .1 .1 .0) (g .last .1 .1 .1 .1 .1 .1 .1 .0) (g .last .1 .1 .1 .1 .1 .1 .1 .1 .0) (g .last .1 .1 .1 .1 .1 .1 .1 .1 .1 .0) (g .last .1 .1 .1 .1 .1 .1 .1 .1 .1 .1 .0) (g .last .1 .1 .1 .1 .1 .1 .1 .1 .1 .1 .1 .0) (g .last .1 .1 .1 .1 .1 .1 .1 .1 .1 .1 .1 .1 .0) (g .last .1 .1 .1 .1 .1 .1 .1 .1 .1 .1 .1 .1 .1 .0) (g .last .1 .1 .1 .1 .1 .1 .1 .1 .1 .1 .1 .1 .1 .1 .0) (g .last .1 .1 .1 .1 .1 .1 .1 .1 .1 .1 .1 .1 .1 .1 .1 .0)) (o .result) (o .last .0) (c .before .before .before .before .before .before .before .before .before .before .before .before .before .before .before .before .before .before .before .before .before .before .before .before .before .before .before .before .before .before .before .before .before .before .before .before .before .before .before .before .before .before .before .before .before .before .before .before .before .before .if1 .left) (g .ensures) (o .ensures)
 
 pub ps-open-spec : {M : Type 1} → statement M

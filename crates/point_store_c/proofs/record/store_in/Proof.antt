@@ -15,12 +15,12 @@ returns : tie.Need-returns
 returns c =
     c .store-read .ensures ∙ legal-read (c .before .before .before .before .args .words .now) (sym (c .before .before .record-legal .ensures) ∙ c .before .if1 .taken)
 
-no-store-requires : tie.Need-no-store-requires
-no-store-requires c κs = tt
+no-record-requires : tie.Need-no-record-requires
+no-record-requires c κs = tt
 
 returns-2 : tie.Need-returns-2
 returns-2 c =
-    c .no-store .ensures ∙ illegal-read (c .before .before .before .before .args .words .now) (sym (c .before .before .record-legal .ensures) ∙ c .before .if1 .left)
+    c .no-record .ensures ∙ illegal-read (c .before .before .before .before .args .words .now) (sym (c .before .before .record-legal .ensures) ∙ c .before .if1 .left)
 
 pub store-in-spec : {M : Type 1} → statement M
-store-in-spec = tie.close (tie.spec record-legal-requires store-read-requires returns no-store-requires returns-2)
+store-in-spec = tie.close (tie.spec record-legal-requires store-read-requires returns no-record-requires returns-2)

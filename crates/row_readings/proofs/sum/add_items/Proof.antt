@@ -3,21 +3,21 @@ use borrow.Author.Needs.{needs, scaled-fits}
 use Prim.Native.Nat.{_+_, _-_, _≤_, zero-le}
 use native.Mathlib.Nat.{lt-of-le-of-lt}
 use native.Mathlib.Numerals.{add-one-le}
-use mathlib.Core.List.{List}
+use mathlib.Core.List.{List, []}
 use mathlib.Core.Path.{_≡_, refl, sym, ap, _∙_}
 use lib.Ieee.{Float}
 use lib.ListN.{length, drop}
 use borrow.Author.Count.{falls}
 use Rattle.float_bits.specs.Rows.{addScaled}
-use Rattle.store_definitions.specs.Memory.{pointStore}
+use Rattle.store_definitions.specs.Memory.{pointStore, rowsAlone}
 use Rattle.store_definitions.specs.Sums.{summed}
-use Rattle.row_readings.specs.Items.{weightings, rowsAlone}
+use Rattle.row_readings.specs.Items.{weightings}
 use Rattle.row_readings.specs.SumLaws.{next-added, none-added}
 use Rattle.row_readings.proofs.sum.add_items.Statement.{statement}
 use Rattle.row_readings.proofs.sum.add_items.Tie as tie
 
 abbrev Inv-loop : tie.InvT-loop
-Inv-loop s store location items out₀ i₀ out i = (i ≤ length items) × (length out ≡ length out₀) × (summed addScaled (pointStore s (rowsAlone store location)) (weightings (drop i items)) out ≡ summed addScaled (pointStore s (rowsAlone store location)) (weightings items) out₀)
+Inv-loop s store location items out₀ i₀ out i = (i ≤ length items) × (length out ≡ length out₀) × (summed addScaled (pointStore s (rowsAlone store [] location)) (weightings (drop i items)) out ≡ summed addScaled (pointStore s (rowsAlone store [] location)) (weightings items) out₀)
 
 abbrev μ-loop : tie.MeasureT-loop
 μ-loop s store location items out₀ i₀ out i = length items - i
@@ -50,7 +50,7 @@ loop-again : tie.Need-loop-again Inv-loop μ-loop
 loop-again c =
     let a = c .before .before .before .before .before .before .before .before .before .before .args in
     let at = c .before .before .before .before .before .before .loop in
-    (add-one-le (c .before .before .before .before .before .loop-test .taken), c .before .before .add-item .kept .1 .1 .1 .1 .1 .0 ∙ at .inv .1, ap (λ (sums : List Float). summed addScaled (pointStore (a .s) (rowsAlone (a .store .now) (a .location .now))) (weightings (drop (at .i + 1) (a .items .now))) sums) (c .before .before .add-item .ensures) ∙ sym (next-added (pointStore (a .s) (rowsAlone (a .store .now) (a .location .now))) (a .items .now) (at .i) (c .before .before .before .before .before .loop-test .taken) addScaled (at .out)) ∙ at .inv .2)
+    (add-one-le (c .before .before .before .before .before .loop-test .taken), c .before .before .add-item .kept .1 .1 .1 .1 .1 .0 ∙ at .inv .1, ap (λ (sums : List Float). summed addScaled (pointStore (a .s) (rowsAlone (a .store .now) [] (a .location .now))) (weightings (drop (at .i + 1) (a .items .now))) sums) (c .before .before .add-item .ensures) ∙ sym (next-added (pointStore (a .s) (rowsAlone (a .store .now) [] (a .location .now))) (a .items .now) (at .i) (c .before .before .before .before .before .loop-test .taken) addScaled (at .out)) ∙ at .inv .2)
 
 same-length : tie.Need-same-length Inv-loop μ-loop
 same-length c = c .before .loop .inv .1
@@ -59,7 +59,7 @@ returns : tie.Need-returns Inv-loop μ-loop
 returns c =
     let a = c .before .before .before .before .before .args in
     let at = c .before .loop in
-    sym (none-added (pointStore (a .s) (rowsAlone (a .store .now) (a .location .now))) addScaled (a .items .now) (at .i) (at .out) (c .loop-test .left)) ∙ at .inv .2
+    sym (none-added (pointStore (a .s) (rowsAlone (a .store .now) [] (a .location .now))) addScaled (a .items .now) (at .i) (at .out) (c .loop-test .left)) ∙ at .inv .2
 
 pub add-items-spec : {M : Type 1} → statement M
 add-items-spec = tie.close (tie.spec Inv-loop μ-loop loop-holds mul-item shared-slice-copy-out-item array-read-add-item array-read-add-item-2 add-item-requires add-i loop-less loop-again same-length returns)

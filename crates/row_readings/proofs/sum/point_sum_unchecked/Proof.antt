@@ -1,15 +1,15 @@
 -- Each way out is one of the laws of `SumLaws`.
 use borrow.Author.Needs.{needs}
-use mathlib.Core.List.{List}
+use mathlib.Core.List.{List, []}
 use mathlib.Core.Path.{sym, ap, _∙_}
 use lib.Ieee.{Float}
 use lib.ListN.{length}
 use Rattle.float_bits.specs.Rows.{addScaled}
 use Rattle.float_bits.specs.Words.{floatOf, plusZero}
 use Rattle.interval_store_manager.specs.Calls.{decisionMeans}
-use Rattle.store_definitions.specs.Memory.{pointStore}
+use Rattle.store_definitions.specs.Memory.{pointStore, rowsAlone}
 use Rattle.store_definitions.specs.Sums.{summed}
-use Rattle.row_readings.specs.Items.{weightings, rowsAlone}
+use Rattle.row_readings.specs.Items.{weightings}
 use Rattle.row_readings.specs.SumLaws.{all-addable, sum-length, sum-refused, sum-written}
 use Rattle.row_readings.proofs.sum.point_sum_unchecked.Statement.{statement}
 use Rattle.row_readings.proofs.sum.point_sum_unchecked.Tie as tie
@@ -47,7 +47,7 @@ same-length c = c .before .before .add-items .kept .1 .1 .1 .1 .0 ∙ c .before 
 returns-3 : tie.Need-returns-3
 returns-3 c =
     let a = c .before .before .before .before .before .before .before .before .before .before .before .before .before .before .before .before .args in
-    sum-written addScaled (floatOf plusZero) (a .s) (a .store .now) (a .reference-count .now) (a .location .now) (weightings (a .items .now)) (a .out .now) (c .before .before .before .before .before .before .before .before .before .before .before .if1 .left) (sym (c .before .before .before .before .before .before .before .before .before .before .items-test .ensures) ∙ ap decisionMeans (c .before .before .before .before .before .before .before .before .enum-told .given .1)) _ (c .before .before .add-items .ensures ∙ ap (λ (sums : List Float). summed addScaled (pointStore (a .s) (rowsAlone (a .store .now) (a .location .now))) (weightings (a .items .now)) sums) (c .before .before .before .before .before .before .clear .ensures))
+    sum-written addScaled (floatOf plusZero) (a .s) (a .store .now) (a .reference-count .now) (a .location .now) (weightings (a .items .now)) (a .out .now) (c .before .before .before .before .before .before .before .before .before .before .before .if1 .left) (sym (c .before .before .before .before .before .before .before .before .before .before .items-test .ensures) ∙ ap decisionMeans (c .before .before .before .before .before .before .before .before .enum-told .given .1)) _ (c .before .before .add-items .ensures ∙ ap (λ (sums : List Float). summed addScaled (pointStore (a .s) (rowsAlone (a .store .now) [] (a .location .now))) (weightings (a .items .now)) sums) (c .before .before .before .before .before .before .clear .ensures))
 
 pub point-sum-unchecked-spec : {M : Type 1} → statement M
 point-sum-unchecked-spec = tie.close (tie.spec returns items-test-requires enum-known-decision enum-told clear-requires add-items-requires returns-2 same-length returns-3)

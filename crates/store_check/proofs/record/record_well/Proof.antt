@@ -5,6 +5,7 @@ use native.Mathlib.Omega.{arith}
 use mathlib.Core.Path.{sym, _∙_}
 use borrow.Author.Tests.{le-leb, lt-leb}
 use Rattle.store_definitions.specs.Bounds.{rotationAllowed}
+use Rattle.store_definitions.specs.WellFormed.{sequenceWell}
 use Rattle.store_laws.specs.BoundsLaws.{in-bounds}
 use Rattle.store_check.specs.CheckLaws.{recordTest}
 use Rattle.store_check.proofs.record.record_well.Statement.{statement}
@@ -55,8 +56,8 @@ free-start-well-requires : tie.Need-free-start-well-requires
 free-start-well-requires c κs = sym (c .before .before .before .before .before .before .before .before .before .before .before .before .before .before .before .before .before .before .bounds-hold .ensures) ∙ c .before .before .before .before .before .before .before .before .before .before .before .before .before .before .before .before .before .if1 .taken
 
 returns-9 : tie.Need-returns-9
-unfolding recordTest rotationAllowed
-returns-9 c = rw ((sym (c .before .before .before .before .before .before .before .before .before .before .before .before .before .before .before .before .before .before .before .bounds-hold .ensures) ∙ c .before .before .before .before .before .before .before .before .before .before .before .before .before .before .before .before .before .before .if1 .taken), le-leb (c .before .before .before .before .before .before .before .before .before .before .before .before .before .before .before .before .before .before .before .before .args .s .capacity * c .before .before .before .before .before .before .before .before .before .before .before .before .before .before .before .before .before .before .before .before .args .s .dimensions) (c .before .before .before .before .before .before .before .before .before .before .before .before .before .before .before .before .before .before .before .before .args .lent .floats) (c .before .before .before .before .before .before .before .before .before .before .before .before .before .before .before .before .if2 .left), le-leb (c .before .before .before .before .before .before .before .before .before .before .before .before .before .before .before .before .before .before .before .before .args .s .dimensions) (c .before .before .before .before .before .before .before .before .before .before .before .before .before .before .before .before .before .before .before .before .args .lent .window) (c .before .before .before .before .before .before .before .before .before .before .before .before .before .before .if3 .left), le-leb (c .before .before .before .before .before .before .before .before .before .before .before .before .before .before .before .before .before .before .before .before .args .s .capacity) (c .before .before .before .before .before .before .before .before .before .before .before .before .before .before .before .before .before .before .before .before .args .lent .counts) (c .before .before .before .before .before .before .before .before .before .before .before .before .if4 .left), le-leb (c .before .before .before .before .before .before .before .before .before .before .before .before .before .before .before .before .before .before .before .before .args .s .capacity) (c .before .before .before .before .before .before .before .before .before .before .before .before .before .before .before .before .before .before .before .before .args .lent .places) (c .before .before .before .before .before .before .before .before .before .before .if5 .left), le-leb (c .before .before .before .before .before .before .before .before .before .before .before .before .before .before .before .before .before .before .before .before .args .s .capacity) (c .before .before .before .before .before .before .before .before .before .before .before .before .before .before .before .before .before .before .before .before .args .lent .starts) (c .before .before .before .before .before .before .before .before .if6 .left), le-leb (c .before .before .before .before .before .before .before .before .before .before .before .before .before .before .before .before .before .before .before .before .args .s .capacity) (c .before .before .before .before .before .before .before .before .before .before .before .before .before .before .before .before .before .before .before .before .args .lent .ends) (c .before .before .before .before .before .before .if7 .left), le-leb (c .before .before .before .before .before .before .before .before .before .before .before .before .before .before .before .before .before .before .before .before .args .s .«index_manager» .capacity) (c .before .before .before .before .before .before .before .before .before .before .before .before .before .before .before .before .before .before .before .before .args .s .capacity) (c .before .before .before .if8 .left), le-leb (c .before .before .before .before .before .before .before .before .before .before .before .before .before .before .before .before .before .before .before .before .args .s .«store_length») (c .before .before .before .before .before .before .before .before .before .before .before .before .before .before .before .before .before .before .before .before .args .s .capacity * c .before .before .before .before .before .before .before .before .before .before .before .before .before .before .before .before .before .before .before .before .args .s .dimensions) (c .before .if9 .left)) (c .free-start-well .ensures)
+unfolding recordTest rotationAllowed sequenceWell
+returns-9 c = rw ((sym (c .before .before .before .before .before .before .before .before .before .before .before .before .before .before .before .before .before .before .before .before .bounds-hold .ensures) ∙ c .before .before .before .before .before .before .before .before .before .before .before .before .before .before .before .before .before .before .before .if1 .taken), le-leb (c .before .before .before .before .before .before .before .before .before .before .before .before .before .before .before .before .before .before .before .before .before .args .s .capacity * c .before .before .before .before .before .before .before .before .before .before .before .before .before .before .before .before .before .before .before .before .before .args .s .dimensions) (c .before .before .before .before .before .before .before .before .before .before .before .before .before .before .before .before .before .before .before .before .before .args .lent .floats) (c .before .before .before .before .before .before .before .before .before .before .before .before .before .before .before .before .before .if2 .left), le-leb (c .before .before .before .before .before .before .before .before .before .before .before .before .before .before .before .before .before .before .before .before .before .args .s .dimensions) (c .before .before .before .before .before .before .before .before .before .before .before .before .before .before .before .before .before .before .before .before .before .args .lent .window) (c .before .before .before .before .before .before .before .before .before .before .before .before .before .before .before .if3 .left), le-leb (c .before .before .before .before .before .before .before .before .before .before .before .before .before .before .before .before .before .before .before .before .before .args .s .capacity) (c .before .before .before .before .before .before .before .before .before .before .before .before .before .before .before .before .before .before .before .before .before .args .lent .counts) (c .before .before .before .before .before .before .before .before .before .before .before .before .before .if4 .left), le-leb (c .before .before .before .before .before .before .before .before .before .before .before .before .before .before .before .before .before .before .before .before .before .args .s .capacity) (c .before .before .before .before .before .before .before .before .before .before .before .before .before .before .before .before .before .before .before .before .before .args .lent .places) (c .before .before .before .before .before .before .before .before .before .before .before .if5 .left), le-leb (c .before .before .before .before .before .before .before .before .before .before .before .before .before .before .before .before .before .before .before .before .before .args .s .capacity) (c .before .before .before .before .before .before .before .before .before .before .before .before .before .before .before .before .before .before .before .before .before .args .lent .starts) (c .before .before .before .before .before .before .before .before .before .if6 .left), le-leb (c .before .before .before .before .before .before .before .before .before .before .before .before .before .before .before .before .before .before .before .before .before .args .s .capacity) (c .before .before .before .before .before .before .before .before .before .before .before .before .before .before .before .before .before .before .before .before .before .args .lent .ends) (c .before .before .before .before .before .before .before .if7 .left), le-leb (c .before .before .before .before .before .before .before .before .before .before .before .before .before .before .before .before .before .before .before .before .before .args .s .«index_manager» .capacity) (c .before .before .before .before .before .before .before .before .before .before .before .before .before .before .before .before .before .before .before .before .before .args .s .capacity) (c .before .before .before .before .if8 .left), le-leb (c .before .before .before .before .before .before .before .before .before .before .before .before .before .before .before .before .before .before .before .before .before .args .s .«store_length») (c .before .before .before .before .before .before .before .before .before .before .before .before .before .before .before .before .before .before .before .before .before .args .s .capacity * c .before .before .before .before .before .before .before .before .before .before .before .before .before .before .before .before .before .before .before .before .before .args .s .dimensions) (c .before .before .if9 .left), c .before .free-start-well .ensures)
 
 returns-10 : tie.Need-returns-10
 unfolding recordTest rotationAllowed

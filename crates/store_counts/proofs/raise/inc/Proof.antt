@@ -12,23 +12,23 @@ use Rattle.store_counts.proofs.raise.inc.Tie as tie
 check-requires : tie.Need-check-requires
 check-requires c κs = tt
 
-inc-well-formed-requires : tie.Need-inc-well-formed-requires
-inc-well-formed-requires c κs = sym (c .before .before .before .before .check .ensures .0) ∙ c .before .before .before .if1 .taken
+inc-unchecked-requires : tie.Need-inc-unchecked-requires
+inc-unchecked-requires c κs = sym (c .before .before .before .before .check .ensures .0) ∙ c .before .before .before .if1 .taken
 
 same-length : tie.Need-same-length
-same-length c = c .before .before .before .before .before .before .inc-well-formed .kept .1 .1 .1 .0
+same-length c = c .before .before .before .before .before .before .inc-unchecked .kept .1 .1 .1 .0
 
 same-length-2 : tie.Need-same-length-2
-same-length-2 c = c .before .before .before .before .before .before .inc-well-formed .kept .1 .1 .1 .1 .1 .1 .1 .1 .1 .0
+same-length-2 c = c .before .before .before .before .before .before .inc-unchecked .kept .1 .1 .1 .1 .1 .1 .1 .1 .1 .0
 
 same-length-3 : tie.Need-same-length-3
-same-length-3 c = c .before .before .before .before .before .before .inc-well-formed .kept .1 .1 .1 .1 .1 .1 .1 .1 .1 .1 .1 .1 .1 .0
+same-length-3 c = c .before .before .before .before .before .before .inc-unchecked .kept .1 .1 .1 .1 .1 .1 .1 .1 .1 .1 .1 .1 .1 .0
 
 returns : tie.Need-returns
 returns c =
     let a = c .before .before .before .before .before .before .before .before .before .before .before .before .before .before .before .before .before .before .before .before .before .before .before .before .before .before .before .before .before .before .args in
     let m = (held (a .store) (a .last-known-shingle) (a .reference-count) (a .location) (a .index-starts) (a .index-ends) (a .labels) (a .label-attributes) (a .label-count) (a .label-starts) (a .label-ends) (a .attributes) (a .attribute-count) (a .attribute-starts) (a .attribute-ends)) in
-    ap (λ (o : Outcome (Unit {0})). refilledOutcome (a .store .now) (a .last-known-shingle .now) o) (c .before .before .before .before .before .before .inc-well-formed .ensures) ∙ inc-same (a .s) m (a .index .0) (a .label .0)
+    ap (λ (o : Outcome (Unit {0})). refilledOutcome (a .store .now) (a .last-known-shingle .now) o) (c .before .before .before .before .before .before .inc-unchecked .ensures) ∙ inc-same (a .s) m (a .index .0) (a .label .0)
 
 same-length-4 : tie.Need-same-length-4
 same-length-4 c = refl
@@ -46,4 +46,4 @@ returns-2 c =
     sym (inc-ill (pointStore (a .s) m) (sym (c .before .check .ensures .0 ∙ well-formed-lengths (a .s) m) ∙ c .if1 .left) (a .index .0) (a .label .0))
 
 pub inc-spec : {M : Type 1} → statement M
-inc-spec = tie.close (tie.spec check-requires inc-well-formed-requires same-length same-length-2 same-length-3 returns same-length-4 same-length-5 same-length-6 returns-2)
+inc-spec = tie.close (tie.spec check-requires inc-unchecked-requires same-length same-length-2 same-length-3 returns same-length-4 same-length-5 same-length-6 returns-2)

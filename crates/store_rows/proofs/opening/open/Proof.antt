@@ -88,7 +88,7 @@ returns : tie.Need-returns
 returns c =
     let a = c .before .before .before .before .before .before .before .before .before .before .before .before .before .before .before .before .before .before .before .before .before .before .before .before .before .before .before .before .before .before .before .before .before .before .before .args in
     let m = (held (a .store) (a .last-known-shingle) (a .reference-count) (a .location) (a .index-starts) (a .index-ends) (a .labels) (a .label-attributes) (a .label-count) (a .label-starts) (a .label-ends) (a .attributes) (a .attribute-count) (a .attribute-starts) (a .attribute-ends)) in
-    open-refused (a .shape) m (number (c .before .before .d .given .0 .0)) (sym (c .before .before .before .before .opening-decision .ensures) ∙ ap decisionMeans (c .before .before .d .given .1))
+    open-refused (a .shape) m (number (c .before .before .d .given .0 .0)) (c .no-record .result) (sym (c .before .before .before .before .opening-decision .ensures) ∙ ap decisionMeans (c .before .before .d .given .1)) (c .no-record .ensures)
 
 same-length-16 : tie.Need-same-length-16
 same-length-16 c = c .before .before .before .before .before .before .before .before .before .before .before .before .before .before .before .before .before .before .before .before .before .before .before .before .before .before .before .before .before .before .before .before .before .before .before .before .before .before .before .before .open-points .kept .1 .0
