@@ -17,8 +17,8 @@
  *   joined, whole    a row whose first floats equal the last ones before the free start shares them and is joined: only its last
  *                    base floats are written. Else it is laid whole. The free start is the float at which the next row is written.
  *   growth           indices and floats are first those of `initial_capacity` points. An add that finds no index free, or no float
- *                    space after compacting, makes the table or the float space longer by a fifth, rounded down, up to `capacity`:
- *                    a table of fewer than 5 indices therefore stays as it is.
+ *                    space after compacting, makes the table or the float space longer by a fifth, rounded down, and by one index or
+ *                    one point's floats at least, up to `capacity`. So an index is denied only where `capacity` indices are live.
  *   compaction       brings the floats of live points together at the start. Indices and copies stay; places and free start fall, or
  *                    stay where there is nothing to gain.
  *   rotation, turned with rotation a copy is turned: stored float i comes out as entry (i + place x base) mod dimensions. Rows that
@@ -66,9 +66,9 @@ extern "C" {
 
 /* The version of this header. ps_version_agrees() tells whether the archive has the same. */
 #define PS_VERSION_MAJOR 0
-#define PS_VERSION_MINOR 2
+#define PS_VERSION_MINOR 3
 #define PS_VERSION_PATCH 0
-#define PS_VERSION "0.2.0"
+#define PS_VERSION "0.3.0"
 
 /* The sizes that the declarations below rely on; where one differs, the line does not compile. */
 typedef char ps_size_t_has_8_bytes[sizeof(size_t) == 8 ? 1 : -1];

@@ -102,7 +102,11 @@ static void adding_and_growth(void) {
     IS(s.words[9], 6);
     IS(s.words[6], 24);
     IS(opened(4, 1, 10, 4, 0, 0, 0), 0);
-    for (i = 0; i < 4; i++)
+    for (i = 0; i < 5; i++)
+        IS(add_four(1, 2, 3, 4), 0);
+    IS(s.words[9], 5);
+    IS(s.words[6], 20);
+    for (i = 5; i < 10; i++)
         IS(add_four(1, 2, 3, 4), 0);
     IS(add_four(1, 2, 3, 4), 9);
 }

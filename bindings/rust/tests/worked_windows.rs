@@ -123,11 +123,11 @@ fn h_a_row_that_joins_is_kept() {
 }
 
 #[test]
-fn a_start_of_four_gives_no_fifth_index() {
+fn a_start_of_four_gives_a_fifth_index() {
     let mut store = opened(4, false);
     add_five(&mut store);
-    assert_eq!(store.add_laid(&[11.0, 12.0], 0), Err(Refusal::PointsFull));
-    assert_eq!(store.live_number(), Ok(4));
+    assert_eq!(store.add_laid(&[11.0, 12.0], 0), kept(4, Laid::Joined(4)));
+    assert_eq!(store.live_number(), Ok(5));
 }
 
 #[test]

@@ -42,7 +42,7 @@ use Rattle.store_laws.specs.WindowLaws.{row-length}
 use Rattle.store_laws.specs.AddingLaws.{can-grow, kept-sound}
 use Rattle.guarantee.specs.History.{Given, History, isLive, gave, changed as changedHistory, joinedPoints, rowOfAdd, withPoints as withAccepted}
 use Rattle.guarantee.specs.Relates.{Relates}
-use Rattle.guarantee.specs.RoomLaws.{copyIn, room-copy, room-length}
+use Rattle.guarantee.specs.RoomLaws.{copyIn, room-copy}
 use Rattle.guarantee.specs.CountCalls.{labels-aside}
 use Rattle.guarantee.specs.RowCalls.{rows-kept, live-point}
 use Rattle.guarantee.specs.WindowLaws.{window-ends, sequenced-kept}
@@ -68,11 +68,6 @@ kept-full p point code e =
 pub sized-base : (s : Store) → s .«internal_shingling» ≡ true → pointLength s ≡ baseOf s
 unfolding pointLength
 sized-base s e = ap (λ (b : Bool). cond b (baseOf s) (s .dimensions)) e
-
--- a table of fewer than 5 does not grow
-few-stay : (n capacity : ℕ) → n < 5 → n < grown n 0 capacity → ⊥
-unfolding grown
-few-stay n capacity few up = omega arith
 
 -- a turn by another name of the same shape
 turned-as : {E : Type 0} (d e s t : ℕ) (a b : Bool) → d ≡ e → s ≡ t → a ≡ b → (place : ℕ) (row : List E) → turned d (turn a d (d / s) place) row ≡ turned e (turn b e (e / t) place) row
@@ -160,7 +155,6 @@ module _ {E : Type 0} (eq : E → E → Bool) (zeroElement : E) (h : Shape) (the
           rows-kept eq h then accepted (sequenced (withLabels l p) point) (laidRows eq u room row)
           (sequenced-kept eq h then s (withLabels l p) v (labels-aside eq h then true s l p r) point (sized-point (k .accepted .sized)))
           laid-copy
-          (room-length zeroElement u (w .table-within) (rowsOf p) (w .rows))
 
       same-table : 0 < u .«index_manager» .last_in_use → Grown laid (tableLength u) (pointTable laid) (laid .memory .location)
       unfolding sequenced laidRows
@@ -173,11 +167,10 @@ module _ {E : Type 0} (eq : E → E → Bool) (zeroElement : E) (h : Shape) (the
             new-counts = λ i l m. absurd (omega arith);
             old-places = λ i l. refl;
             places-lent = omega (arith, room-rows .places-lent, w .table-within);
-            short-stays = λ few. refl;
           }
 
       abbrev longer : ℕ
-      longer = grown (tableLength u) 0 (u .capacity)
+      longer = grown (tableLength u) 1 (u .capacity)
 
       abbrev grownTable : Counted
       grownTable =
@@ -189,7 +182,7 @@ module _ {E : Type 0} (eq : E → E → Bool) (zeroElement : E) (h : Shape) (the
       grown-table none =
           let n = tableLength u in
           let up : n < longer = can-grow u (w .table-within) (k .not-full) none in
-          let most : longer ≤ u .capacity = grown-within n 0 (u .capacity) (w .table-within) .1 in
+          let most : longer ≤ u .capacity = grown-within n 1 (u .capacity) (w .table-within) .1 in
           let ready = grown-ready p w longer up most in
           let counts : longer ≤ length (p .memory .referenceCount) = omega (arith, w .lent .counts-lent) in
           let places : longer ≤ length (room .location) = omega (arith, room-rows .places-lent) in
@@ -201,7 +194,6 @@ module _ {E : Type 0} (eq : E → E → Bool) (zeroElement : E) (h : Shape) (the
             new-counts = λ i l m. filled-new n longer 0 (p .memory .referenceCount) (omega arith) counts i 0 l m;
             old-places = λ i l. filled-before n longer 65535 (room .location) (omega arith) places i 65535 l;
             places-lent = rw (filled-length n longer 65535 (room .location) (omega arith) places) places;
-            short-stays = λ few. absurd (few-stay n (u .capacity) few up);
           }
 
       module _ (g : Given E) (of-row : g .row ≡ rowOfAdd h (point ∷ s .points)) (of-place : g .place ≡ place) where

@@ -39,7 +39,7 @@ record Gives : Type 0 where
   -- the room of one live index, which is all used
   small-room : store smallTurning (compact ∷ listSmall) .header .«start_free_region» ≤ 3
   -- a live point's room of 3 floats and 2 floats more do not fit the store length, which is the largest
-  h-bound : liveIndices 2 (past smallTurning listSmall) * 3 + 2 ≤ grown (store smallTurning listSmall .header .«store_length») 0 4 → ⊥
+  h-bound : liveIndices 2 (past smallTurning listSmall) * 3 + 2 ≤ grown (store smallTurning listSmall .header .«store_length») 2 4 → ⊥
   labelled-count : countCall (store smallLabelled listLabelled) 0 ≡ is 2
   labelled-gone : countCall (store smallLabelled listLabelled) 1 ≡ refused 5
   labelled-copy : Alike wordsEqual (copyCall (store smallLabelled listLabelled) 0 (replicate 2 0) .out) (1 ∷ 2 ∷ [])

@@ -44,7 +44,6 @@ module _ {E : Type 0} (eq : E → E → Bool) (h : Shape) (then : Given E → Po
         copies = r .copies;
         sequence = r .sequence;
         window = r .window;
-        space = r .space;
       }
   labels-aside false s l p r = r
 
@@ -90,7 +89,6 @@ module _ {E : Type 0} (eq : E → E → Bool) (h : Shape) (then : Given E → Po
           copies = λ k f since. r .copies k f (inced-since (eqb k i) (s .life k) (since .0) (since .1) f (since .2));
           sequence = r .sequence;
           window = r .window;
-          space = r .space;
         })
 
     whole : lowered (pointTable p) i .manager .capacity ≡ n
@@ -137,5 +135,4 @@ module _ {E : Type 0} (eq : E → E → Bool) (h : Shape) (then : Given E → Po
               (r .copies k f (deced-since (eqb k i) (s .life k) (since .0) (since .1) f (since .2)));
           sequence = r .sequence;
           window = r .window;
-          space = rw whole (r .space);
         })

@@ -1,28 +1,24 @@
 -- An add is refused for float space only as the guarantee says.
-use Prim.Native.Nat.{ℕ, _+_, _*_, _/_, _<_}
+use Prim.Native.Nat.{ℕ, _+_, _*_, _<_}
 use native.Mathlib.Omega.{arith}
 use mathlib.Core.Bool.{Bool, true, false, cond}
 use mathlib.Core.List.{List}
 use mathlib.Core.Path.{_≡_, refl, sym, ap, _∙_}
 use Rattle.interval_store_manager.specs.Calls.{go, refuse}
 use Rattle.placement.specs.AlignmentLaws.{pointRoom}
-use Rattle.placement.specs.Growth.{grown}
 use Rattle.placement.specs.declared.Laid.{Laid}
-use Rattle.store_definitions.specs.declared.Shape.{Shape}
+use Rattle.placement.specs.Growth.{grown}
+use Rattle.labels.specs.Counted.{liveNumber}
 use Rattle.store_definitions.specs.Memory.{PointStore}
 use Rattle.store_definitions.specs.Answers.{kept, refused, outcome}
-use Rattle.store_definitions.specs.Parts.{rowsOf, withRows}
+use Rattle.store_definitions.specs.Parts.{baseOf, tableLength, pointTable, rowsOf, withRows}
 use Rattle.store_definitions.specs.Rows.{roomMade}
 use Rattle.store_definitions.specs.Adding.{AddDecided, keep, wait, refuseAdd, addDecided, rowOf, labelGiven, overflows, laidHow, keptAfter, indexGiven, keeps, addCarriedOut, addSpec}
 use Rattle.store_definitions.specs.WellFormed.{wellFormed}
 use Rattle.store_laws.specs.Sound.{sound}
-use Rattle.store_laws.specs.RefusalLaws.{add-never}
+use Rattle.store_laws.specs.RefusalLaws.{add-never, add-refused-ten}
 use Rattle.store_laws.specs.AddDecisionLaws.{keeps-on}
-use Rattle.guarantee.specs.History.{Given, History}
-use Rattle.guarantee.specs.Guarantee.{liveIndices}
-use Rattle.guarantee.specs.Relates.{Relates}
-use Rattle.guarantee.specs.SpaceLaws.{refused-bound, unturned-fits}
-use Rattle.guarantee.specs.RowCalls.{live-number-is}
+use Rattle.guarantee.specs.SpaceLaws.{refused-bound, refused-largest, unturned-fits}
 use Rattle.guarantee.specs.EachCallKeeps.{formed}
 
 full-room : {E : Type 0} (b : Bool) (x y : PointStore E) (i l : ℕ) (laid : Laid) → cond b (outcome (refused 10) x) (outcome (kept i l laid) y) .answer ≡ refused 10 → b ≡ true
@@ -55,18 +51,21 @@ module _ {E : Type 0} (eq : E → E → Bool) (zeroElement : E) (p : PointStore 
       split wait e a = absurd (let z : _≡_ {A = ℕ} 0 1 = cc in omega arith)
       split (refuseAdd n) e a = absurd (decided-not-ten f (e ∙ ap refuseAdd (let q : n ≡ 10 = cc in q)))
 
-  module _ (h : Shape) (then : Given E → PointStore E) (s : History E) (f : wellFormed p ≡ true) (r : Relates eq h then s p) where
-    pub space-refusal : addSpec eq zeroElement p point code .answer ≡ refused 10
-        → (h .«internal_rotation» ≡ true)
-        × (grown (p .header .«store_length») 0 (h .capacity * h .dimensions) < liveIndices (h .capacity) s * pointRoom (h .«internal_rotation») (h .dimensions) (h .dimensions / h .«shingle_size») + h .dimensions)
-    space-refusal e =
-        let w = sound p f in
-        let t = ten f e in
-        let k = keeps-on p point code (t .0) in (
-          turns (h .«internal_rotation») refl (λ off. unturned-fits p w zeroElement eq (rowOf p point) (t .1) (r .fits .rotation ∙ off) (k .not-full) (r .space)),
-          rw (live-number-is eq h then s p w r, ← (r .fits .dimensions), ← (r .fits .shingle), ← (r .fits .rotation), ← (r .fits .capacity)) (refused-bound p w zeroElement eq (rowOf p point) (t .1)),
-        )
-      where
-        turns : (b : Bool) → h .«internal_rotation» ≡ b → (h .«internal_rotation» ≡ false → ⊥) → h .«internal_rotation» ≡ true
-        turns true e g = e
-        turns false e g = absurd (g e)
+  -- 'The guarantee on float space without rotation covers these small stores too': no add of a well-formed store, fresh or not
+  pub unturned-never-ten : wellFormed p ≡ true → p .header .«internal_rotation» ≡ false → addSpec eq zeroElement p point code .answer ≡ refused 10 → ⊥
+  unturned-never-ten f off e =
+      let t = ten f e in
+      unturned-fits p (sound p f) zeroElement eq (rowOf p point) (t .1) off (keeps-on p point code (t .0) .not-full)
+
+  -- with rotation or without, 10 comes at the largest store length alone: below it one growth makes room
+  pub ten-at-largest : wellFormed p ≡ true → addSpec eq zeroElement p point code .answer ≡ refused 10
+      → addSpec eq zeroElement p point code .after .header .«store_length» ≡ p .header .capacity * p .header .dimensions
+  ten-at-largest f e =
+      ap (λ (q : PointStore E). q .header .«store_length») (add-refused-ten eq zeroElement p point code e)
+      ∙ refused-largest p (sound p f) zeroElement eq (rowOf p point) (ten f e .1)
+
+  -- and only where the live indices' room and one point more pass the grown store length
+  pub ten-bound : wellFormed p ≡ true → addSpec eq zeroElement p point code .answer ≡ refused 10
+      → grown (p .header .«store_length») (p .header .dimensions) (p .header .capacity * p .header .dimensions)
+      < liveNumber (tableLength (p .header)) (pointTable p) * pointRoom (p .header .«internal_rotation») (p .header .dimensions) (baseOf (p .header)) + p .header .dimensions
+  ten-bound f e = refused-bound p (sound p f) zeroElement eq (rowOf p point) (ten f e .1)

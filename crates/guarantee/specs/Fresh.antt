@@ -1,11 +1,8 @@
 -- A fresh store stands to the empty history as the invariant says.
-use Prim.Native.Nat.{ℕ, zero, suc, _*_, _-_, _/_, _≤_, _<_}
-use native.Mathlib.Nat.{mul-le-mul-right}
-use native.Mathlib.Decide.{decLt}
+use Prim.Native.Nat.{ℕ, zero, suc, _*_, _-_, _/_, _≤_}
 use native.Mathlib.Omega.{arith}
 use mathlib.Core.Bool.{Bool, false≢true}
 use mathlib.Core.List.{List, []}
-use mathlib.Core.Logic.{_⊎_, inl, inr}
 use mathlib.Core.Path.{_≡_, refl, _∙_}
 use lib.ListN.{length, getD, take, drop}
 use lib.Seq.{drop-length, length-take-le}
@@ -19,10 +16,6 @@ use Rattle.store_laws.specs.OpeningLaws.{filled-length, filled-at}
 use Rattle.guarantee.specs.History.{Given, dead, alive, nothing, joinedPoints}
 use Rattle.guarantee.specs.Relates.{Relates}
 use Rattle.guarantee.specs.CountCalls.{labels-aside}
-
-start-room : (start dims : ℕ) → (5 * dims ≤ start * dims) ⊎ ((start < 5) × (start * dims ≤ start * dims))
-start-room start dims =
-    elim (decLt start 5) [ yes few ↦ inr (few, omega arith) | no many ↦ inl (mul-le-mul-right dims (omega arith)) ]
 
 no-points : {E : Type 0} (dims base : ℕ) (window : List E) → dims ≤ length window → (k : ℕ) → k ≤ 0 → drop (dims - k * base) (take dims window) ≡ joinedPoints k []
 unfolding joinedPoints
@@ -48,7 +41,6 @@ module _ {E : Type 0} (eq : E → E → Bool) (zeroElement : E) (h : Shape) (m :
         copies = λ i g since. never (since .2);
         sequence = refl;
         window = λ on k l none. no-points (h .dimensions) (h .dimensions / h .«shingle_size») (filledFirst (h .dimensions) zeroElement (m .lastKnownShingle)) (rw (filled-length (h .dimensions) zeroElement (m .lastKnownShingle) window) window) k none;
-        space = start-room (h .«initial_capacity») (h .dimensions);
       })
     where
       bare : PointStore E

@@ -68,7 +68,7 @@ module _ {E : Type 0} (eq : E → E → Bool) (zeroElement : E) (h : Shape) (sta
 
   -- the store length that growth would give
   abbrev pub lengthGrown : List (Call E) → ℕ
-  lengthGrown calls = grown (storeAfter calls .header .«store_length») 0 (h .capacity * h .dimensions)
+  lengthGrown calls = grown (storeAfter calls .header .«store_length») (h .dimensions) (h .capacity * h .dimensions)
 
   -- one that is not while the room of the live indices plus dimensions, counted before it, fits that length
   abbrev pub NotShortWithin : Call E → List (Call E) → Type 0

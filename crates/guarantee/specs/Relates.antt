@@ -2,7 +2,6 @@
 use Prim.Native.Nat.{ℕ, _+_, _*_, _-_, _/_, _≤_, _<_}
 use mathlib.Core.Bool.{Bool, true, not}
 use mathlib.Core.List.{List}
-use mathlib.Core.Logic.{_⊎_}
 use mathlib.Core.Path.{_≡_}
 use lib.ListN.{length, getD, take, drop}
 use lib.Dec.{eqb}
@@ -27,13 +26,6 @@ pub record Fits (h : Shape) (s : Store) : Type 0 where
   pub internal : s .«internal_shingling» ≡ h .«internal_shingling»
   pub rotation : s .«internal_rotation» ≡ h .«internal_rotation»
 
--- Float space. A fifth of the store length is at least one point; or the table is too short to grow, and the store length has a
--- place for each of its indices.
-abbrev pub Roomy : Store → Type 0
-Roomy s =
-    (5 * s .dimensions ≤ s .«store_length»)
-    ⊎ ((tableLength s < 5) × (tableLength s * s .dimensions ≤ s .«store_length»))
-
 -- what a copy call answers for a live index
 abbrev pub copyAnswer : {E : Type 0} → ℕ → List E → List E → Output E
 copyAnswer dims copy out = writes (refuseIf (not (eqb (length out) dims)) 3) out copy
@@ -57,5 +49,3 @@ module _ {E : Type 0} (eq : E → E → Bool) (h : Shape) (then : Given E → Po
     pub sequence : p .header .«next_sequence_index» ≡ length (s .points)
     pub window : p .header .«internal_shingling» ≡ true → (k : ℕ) → k ≤ p .header .«shingle_size» → k ≤ length (s .points)
         → drop (p .header .dimensions - k * baseOf (p .header)) (take (p .header .dimensions) (p .memory .lastKnownShingle)) ≡ joinedPoints k (s .points)
-    -- float space, by itself
-    pub space : Roomy (p .header)

@@ -12,7 +12,7 @@ use Rattle.placement.specs.AlignmentLaws.{pointRoom}
 use Rattle.placement.specs.Compaction.{Layout, liveCount, compacted}
 use Rattle.placement.specs.CompactionLaws.{CompactionKeeps, compaction-keeps, copy-kept}
 use Rattle.placement.specs.Copying.{copied}
-use Rattle.placement.specs.Growth.{grown, grown-within}
+use Rattle.placement.specs.Growth.{grown}
 use Rattle.placement.specs.Laying.{writtenCount}
 use Rattle.placement.specs.Pieces.{piece-front}
 use Rattle.placement.specs.Places.{Live}
@@ -93,7 +93,7 @@ module _ {E : Type 0} (zeroElement : E) (s : Store) (t : tableLength s ≤ s .ca
     grown-copy : (i : ℕ) → i < n → Live (take n (r .location)) i → copyIn s (grownRows zeroElement s r) i ≡ copyIn s r i
     unfolding grownRows copied
     grown-copy i h live =
-        rw (append-assoc (take (r .storeLength) (r .elements)) (replicate (grown (r .storeLength) 0 (s .capacity * s .dimensions) - r .storeLength) zeroElement) (drop (grown (r .storeLength) 0 (s .capacity * s .dimensions)) (r .elements)), front i (replicate (grown (r .storeLength) 0 (s .capacity * s .dimensions) - r .storeLength) zeroElement ++ drop (grown (r .storeLength) 0 (s .capacity * s .dimensions)) (r .elements)) h live)
+        rw (append-assoc (take (r .storeLength) (r .elements)) (replicate (grown (r .storeLength) (s .dimensions) (s .capacity * s .dimensions) - r .storeLength) zeroElement) (drop (grown (r .storeLength) (s .dimensions) (s .capacity * s .dimensions)) (r .elements)), front i (replicate (grown (r .storeLength) (s .dimensions) (s .capacity * s .dimensions) - r .storeLength) zeroElement ++ drop (grown (r .storeLength) (s .dimensions) (s .capacity * s .dimensions)) (r .elements)) h live)
 
   module _ (r : Rows E) (w : RowsOf s r) where
     -- of the room made
@@ -106,18 +106,12 @@ module _ {E : Type 0} (zeroElement : E) (s : Store) (t : tableLength s ≤ s .ca
         go true false = compact-copy r w i h live
         go false b = refl
 
-    pub room-length : r .storeLength ≤ roomMade zeroElement s r .storeLength
-    unfolding roomMade compactedRows grownRows
-    room-length = go (short zeroElement s r) (short zeroElement s (c r w))
-      where
-        go : (a b : Bool) → r .storeLength ≤ cond a (cond b (grownRows zeroElement s (c r w)) (c r w)) r .storeLength
-        go true true = grown-within (r .storeLength) 0 (s .capacity * s .dimensions) (w .store-within) .0
-        go true false = omega arith
-        go false b = omega arith
+    abbrev longest : ℕ
+    longest = grown (r .storeLength) (s .dimensions) (s .capacity * s .dimensions)
 
     -- a row that does not fit: compaction ran, and growth, and left too little
     pub short-room : (eq : E → E → Bool) (row : List E) → baseOf s ≤ s .dimensions → overflows eq s (roomMade zeroElement s r) row ≡ true
-        → (r .storeLength < (c r w) .free + s .dimensions) × (grown (r .storeLength) 0 (s .capacity * s .dimensions) < (c r w) .free + s .dimensions)
+        → (longest < (c r w) .free + s .dimensions) × (roomMade zeroElement s r .storeLength ≡ longest)
     unfolding overflows roomMade short grownRows compactedRows
     short-room eq row wide e =
         go (short zeroElement s r) (short zeroElement s (c r w)) refl refl
@@ -130,7 +124,7 @@ module _ {E : Type 0} (zeroElement : E) (s : Store) (t : tableLength s ≤ s .ca
         go : (a b : Bool) → short zeroElement s r ≡ a → short zeroElement s (c r w) ≡ b
             → ((x : Rows E) → writtenCount (s .dimensions) (baseOf s) (joins eq s x row) ≤ s .dimensions)
             → room a b .storeLength < room a b .free + writtenCount (s .dimensions) (baseOf s) (joins eq s (room a b) row)
-            → (r .storeLength < (c r w) .free + s .dimensions) × (grown (r .storeLength) 0 (s .capacity * s .dimensions) < (c r w) .free + s .dimensions)
-        go true true p q most o = (ltb-true _ _ q, omega (arith, most (room true true)))
+            → (longest < (c r w) .free + s .dimensions) × (room a b .storeLength ≡ longest)
+        go true true p q most o = (omega (arith, most (room true true)), refl)
         go true false p q most o = absurd (not-short (r .storeLength) ((c r w) .free + s .dimensions) q (omega (arith, most (room true false))))
         go false b p q most o = absurd (not-short (r .storeLength) (r .free + s .dimensions) p (omega (arith, most r)))

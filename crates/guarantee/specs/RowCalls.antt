@@ -1,8 +1,7 @@
 -- Compact, and a refusal for float space, keep the invariant; the live indices' number.
-use Prim.Native.Nat.{ℕ, _*_, _≤_, _<_}
+use Prim.Native.Nat.{ℕ, _<_}
 use native.Mathlib.Omega.{arith}
 use mathlib.Core.Bool.{Bool, true, false}
-use mathlib.Core.Logic.{_⊎_, inl, inr}
 use mathlib.Core.Path.{_≡_, refl, sym, ap, subst, _∙_}
 use lib.ListN.{getD, take}
 use lib.Dec.{ltb}
@@ -19,18 +18,13 @@ use Rattle.guarantee.specs.History.{Given, isLive, History}
 use Rattle.guarantee.specs.LifeLaws.{dead-count}
 use Rattle.guarantee.specs.Guarantee.{liveIndices}
 use Rattle.guarantee.specs.Relates.{CopyStands, Relates}
-use Rattle.guarantee.specs.RoomLaws.{copyIn, compact-copy, room-copy, room-length}
+use Rattle.guarantee.specs.RoomLaws.{copyIn, compact-copy, room-copy}
 
 module _ {E : Type 0} (eq : E → E → Bool) (h : Shape) (then : Given E → PointStore E) where
-  -- more float space does no harm
-  longer : (d n l m : ℕ) → l ≤ m → (5 * d ≤ l) ⊎ ((n < 5) × (n * d ≤ l)) → (5 * d ≤ m) ⊎ ((n < 5) × (n * d ≤ m))
-  longer d n l m k (inl five) = inl (omega arith)
-  longer d n l m k (inr few) = inr (few .0, omega (arith, few .1))
-
   -- other rows, in which the live indices have their copies
-  pub rows-kept : (s : History E) (p : PointStore E) (x : Rows E) → Relates eq h then s p → ((i : ℕ) → isLive (s .life i) ≡ true → copyIn (p .header) x i ≡ copyOf p i) → p .header .«store_length» ≤ x .storeLength → Relates eq h then s (withRows x p)
+  pub rows-kept : (s : History E) (p : PointStore E) (x : Rows E) → Relates eq h then s p → ((i : ℕ) → isLive (s .life i) ≡ true → copyIn (p .header) x i ≡ copyOf p i) → Relates eq h then s (withRows x p)
   unfolding copyOf
-  rows-kept s p x r same long =
+  rows-kept s p x r same =
       record {
         fits = record {
           dimensions = r .fits .dimensions;
@@ -46,7 +40,6 @@ module _ {E : Type 0} (eq : E → E → Bool) (h : Shape) (then : Given E → Po
         copies = λ i g since. subst (CopyStands eq h then i g) (sym (same i (ap isLive (since .2)))) (r .copies i g since);
         sequence = r .sequence;
         window = r .window;
-        space = longer (p .header .dimensions) (tableLength (p .header)) (p .header .«store_length») (x .storeLength) long (r .space);
       }
 
   module _ (s : History E) (p : PointStore E) (w : Sound p) (r : Relates eq h then s p) where
@@ -63,14 +56,12 @@ module _ {E : Type 0} (eq : E → E → Bool) (h : Shape) (then : Given E → Po
     compact-kept zeroElement =
         rows-kept s p (compactedRows zeroElement (p .header) (rowsOf p)) r
         (λ i e. compact-copy zeroElement (p .header) (w .table-within) (rowsOf p) (w .rows) i (r .live-below i e) (live-point i e))
-        (omega arith)
 
     pub room-kept : (zeroElement : E) → Relates eq h then s (withRows (roomMade zeroElement (p .header) (rowsOf p)) p)
     unfolding copyOf
     room-kept zeroElement =
         rows-kept s p (roomMade zeroElement (p .header) (rowsOf p)) r
         (λ i e. room-copy zeroElement (p .header) (w .table-within) (rowsOf p) (w .rows) i (r .live-below i e) (live-point i e))
-        (room-length zeroElement (p .header) (w .table-within) (rowsOf p) (w .rows))
 
     -- the history's live indices are the store's
     live-test : (i : ℕ) → i < n → isLive (s .life i) ≡ ltb 0 (getD (p .memory .referenceCount) i 0)

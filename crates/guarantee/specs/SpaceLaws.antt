@@ -3,9 +3,8 @@ use Prim.Native.Nat.{ℕ, zero, suc, _+_, _*_, _≤_, _<_}
 use native.Mathlib.Nat.{suc-mul, mul-le-mul-right, le-of-dvd}
 use native.Mathlib.Decide.{decLt, ℕ-discrete}
 use native.Mathlib.Omega.{arith}
-use mathlib.Core.Bool.{Bool, true, false, cond, not, false≢true}
+use mathlib.Core.Bool.{Bool, true, false, cond, not}
 use mathlib.Core.List.{List, [], _∷_}
-use mathlib.Core.Logic.{inl, inr}
 use mathlib.Core.Path.{_≡_, refl, sym, ap, subst, _∙_}
 use lib.ListN.{length, getD, take}
 use lib.Seq.{length-take-le, getD-take}
@@ -15,7 +14,7 @@ use Rattle.terms.specs.Below.{sumBelow, countBelow, one, one-le, sum-same, sum-
 use Rattle.terms.specs.Sums.{sum-less}
 use Rattle.placement.specs.AlignmentLaws.{pointRoom}
 use Rattle.placement.specs.Compaction.{liveCount}
-use Rattle.placement.specs.Growth.{grown}
+use Rattle.placement.specs.Growth.{grown, grown-gains, grown-short, grown-within}
 use Rattle.labels.specs.Counted.{nextIndex, liveNumber}
 use Rattle.labels.specs.CountedLaws.{next-within, next-unused}
 use Rattle.store_definitions.specs.Memory.{PointStore}
@@ -24,7 +23,7 @@ use Rattle.store_definitions.specs.Rows.{compactedRows, roomMade}
 use Rattle.store_definitions.specs.Adding.{tableFull, overflows}
 use Rattle.store_laws.specs.BoundsLaws.{base-divides}
 use Rattle.store_laws.specs.Sound.{Sound}
-use Rattle.guarantee.specs.Relates.{Roomy}
+use Rattle.store_laws.specs.AddingLaws.{can-grow}
 use Rattle.guarantee.specs.RoomLaws.{compact-free, compact-down, short-room}
 
 -- ---- how many indices are live: by the history, by the counts and by the places
@@ -83,21 +82,16 @@ module _ {E : Type 0} (p : PointStore E) (w : Sound p) where
       (rw (next-unused n (pointTable p) (w .points) h))
 
   -- an add that is kept: an index is free, or the table grows
-  pub number-room : tableFull (p .header) ≡ false
-      → (liveNumber n (pointTable p) < p .header .capacity) × (n < 5 → liveNumber n (pointTable p) < n)
-  unfolding tableFull grown
+  pub number-room : tableFull (p .header) ≡ false → liveNumber n (pointTable p) < p .header .capacity
   number-room e =
       elim (ℕ-discrete (p .header .«index_manager» .last_in_use) 0) [
         | yes z ↦
-            let more : grown n 0 (p .header .capacity) ≡ n → ⊥ = λ q. false≢true (sym e ∙ (rw (eq-eqb (p .header .«index_manager» .last_in_use) 0 z, eq-eqb (grown n 0 (p .header .capacity)) n q))) in
-            elim (decLt n (p .header .capacity)) [
-              | yes l ↦ (omega (arith, number-most), λ five. absurd (more (omega (arith, w .table-within))))
-              | no g ↦ absurd (more (omega (arith, w .table-within)))
-            ]
-        | no d ↦ (omega (arith, number-less (omega arith), w .table-within), λ five. number-less (omega arith))
+            let up = can-grow (p .header) (w .table-within) e z in
+            omega (arith, number-most, up, grown-within n 1 (p .header .capacity) (w .table-within) .1)
+        | no d ↦ omega (arith, number-less (omega arith), w .table-within)
       ]
 
-  -- float space: a point more fits without rotation; with it, where its bound does
+  -- a row that does not fit, after compaction and growth
   module _ (zeroElement : E) (eq : E → E → Bool) (row : List E) (o : overflows eq (p .header) (roomMade zeroElement (p .header) (rowsOf p)) row ≡ true) where
     abbrev room : ℕ
     room = pointRoom (p .header .«internal_rotation») (p .header .dimensions) (baseOf (p .header))
@@ -105,7 +99,13 @@ module _ {E : Type 0} (p : PointStore E) (w : Sound p) where
     abbrev compactFree : ℕ
     compactFree = compactedRows zeroElement (p .header) (rowsOf p) .free
 
-    left : (p .header .«store_length» < compactFree + p .header .dimensions) × (grown (p .header .«store_length») 0 (p .header .capacity * p .header .dimensions) < compactFree + p .header .dimensions)
+    abbrev limit : ℕ
+    limit = p .header .capacity * p .header .dimensions
+
+    abbrev longer : ℕ
+    longer = grown (p .header .«store_length») (p .header .dimensions) limit
+
+    left : (longer < compactFree + p .header .dimensions) × (roomMade zeroElement (p .header) (rowsOf p) .storeLength ≡ longer)
     left =
         short-room zeroElement (p .header) (w .table-within) (rowsOf p) (w .rows) eq row
         (le-of-dvd (w .bounds .dims-least) (base-divides (p .header .dimensions) (p .header .«shingle_size») (p .header .capacity) (w .bounds)))
@@ -114,21 +114,21 @@ module _ {E : Type 0} (p : PointStore E) (w : Sound p) where
     free-most : compactFree ≤ liveNumber n (pointTable p) * room
     free-most = rw (sym points-number) (compact-free zeroElement (p .header) (w .table-within) (rowsOf p) (w .rows))
 
-    pub refused-bound : grown (p .header .«store_length») 0 (p .header .capacity * p .header .dimensions) < liveNumber n (pointTable p) * room + p .header .dimensions
-    refused-bound = omega (arith, left, free-most)
+    pub refused-bound : longer < liveNumber n (pointTable p) * room + p .header .dimensions
+    refused-bound = omega (arith, left .0, free-most)
 
-    pub unturned-fits : p .header .«internal_rotation» ≡ false → tableFull (p .header) ≡ false → Roomy (p .header) → ⊥
-    unfolding pointRoom grown
-    unturned-fits e f roomy =
+    -- growth gives a point's floats, or all that there are
+    one-more : compactFree + p .header .dimensions ≤ p .header .«store_length» + p .header .dimensions
+    one-more = omega (arith, compact-down zeroElement (p .header) (w .table-within) (rowsOf p) (w .rows), w .rows .free-inside)
+
+    pub refused-largest : roomMade zeroElement (p .header) (rowsOf p) .storeLength ≡ limit
+    refused-largest = left .1 ∙ grown-short (p .header .«store_length») (p .header .dimensions) limit (compactFree + p .header .dimensions) one-more (left .0)
+
+    pub unturned-fits : p .header .«internal_rotation» ≡ false → tableFull (p .header) ≡ false → ⊥
+    unfolding pointRoom
+    unturned-fits e f =
         let dims = p .header .dimensions in
         let live = liveNumber n (pointTable p) in
-        let down : compactFree ≤ p .header .«store_length» = omega (arith, compact-down zeroElement (p .header) (w .table-within) (rowsOf p) (w .rows), w .rows .free-inside) in
         let most : compactFree ≤ live * dims = subst (λ (x : ℕ). compactFree ≤ live * x) (ap (λ (b : Bool). pointRoom b dims (baseOf (p .header))) e) free-most in
-        let within : live * dims + dims ≤ p .header .capacity * dims = rw (sym (suc-mul live dims)) (mul-le-mul-right dims (number-room f .0)) in
-        go roomy down most within
-      where
-        go : Roomy (p .header) → compactFree ≤ p .header .«store_length» → compactFree ≤ liveNumber n (pointTable p) * p .header .dimensions → liveNumber n (pointTable p) * p .header .dimensions + p .header .dimensions ≤ p .header .capacity * p .header .dimensions → ⊥
-        go (inl five) down most within = omega (arith, left)
-        go (inr few) down most within =
-            let table : liveNumber n (pointTable p) * p .header .dimensions + p .header .dimensions ≤ n * p .header .dimensions = rw (sym (suc-mul (liveNumber n (pointTable p)) (p .header .dimensions))) (mul-le-mul-right (p .header .dimensions) (number-room f .1 (few .0))) in
-            omega (arith, left)
+        let within : live * dims + dims ≤ limit = rw (sym (suc-mul live dims)) (mul-le-mul-right dims (number-room f)) in
+        omega (arith, left .0, grown-gains (p .header .«store_length») dims limit (compactFree + dims) one-more (omega (arith, most, within)))

@@ -1,10 +1,9 @@
 -- A kept add's index: taken from a table, grown or as it was, it keeps the invariant.
-use Prim.Native.Nat.{ℕ, zero, suc, _+_, _*_, _/_, _≤_, _<_}
+use Prim.Native.Nat.{ℕ, zero, suc, _+_, _/_, _≤_, _<_}
 use native.Mathlib.Decide.{decLt, ℕ-discrete}
 use native.Mathlib.Omega.{arith}
 use mathlib.Core.Bool.{Bool, true, cond}
 use mathlib.Core.List.{List}
-use mathlib.Core.Logic.{_⊎_, inl, inr}
 use mathlib.Core.Path.{_≡_, sym, ap, subst, _∙_}
 use lib.ListN.{length, getD, set}
 use lib.Seq.{getD-set-same, getD-set-other}
@@ -46,7 +45,6 @@ pub record Grown {E : Type 0} (p : PointStore E) (n : ℕ) (t : Counted) (locati
   pub new-counts : (i : ℕ) → tableLength (p .header) ≤ i → i < n → countAt t i ≡ 0
   pub old-places : (i : ℕ) → i < tableLength (p .header) → getD location i 65535 ≡ getD (p .memory .location) i 65535
   pub places-lent : n ≤ length location
-  pub short-stays : tableLength (p .header) < 5 → n ≡ tableLength (p .header)
 
 module _ {E : Type 0} (eq : E → E → Bool) (h : Shape) (then : Given E → PointStore E) (s : History E) (p : PointStore E) (r : Relates eq h then s p) (n : ℕ) (t : Counted) (location : List ℕ) (grown : Grown p n t location) (g : Given E) (place : ℕ) where
   abbrev i : ℕ
@@ -115,10 +113,6 @@ module _ {E : Type 0} (eq : E → E → Bool) (h : Shape) (then : Given E → Po
           row = row;
         }
 
-    roomy : (d l : ℕ) → (5 * d ≤ l) ⊎ ((tableLength (p .header) < 5) × (tableLength (p .header) * d ≤ l)) → (5 * d ≤ l) ⊎ ((n < 5) × (n * d ≤ l))
-    roomy d l (inl five) = inl five
-    roomy d l (inr few) = inr (rw (grown .short-stays (few .0)) few)
-
     new-copies : (k : ℕ) (f : Given E) (x y : ℕ) → cond (eqb k i) (alive 0 0 g) (s .life k) ≡ alive x y f → CopyStands eq h then k f (copyOf after k)
     new-copies k f x y e =
         elim (ℕ-discrete k i) [
@@ -162,5 +156,4 @@ module _ {E : Type 0} (eq : E → E → Bool) (h : Shape) (then : Given E → Po
           copies = λ k f since. new-copies k f (since .0) (since .1) (since .2);
           sequence = r .sequence;
           window = r .window;
-          space = rw whole (roomy (p .header .dimensions) (p .header .«store_length») (r .space));
         }

@@ -2,7 +2,7 @@
 use Prim.Native.Nat.{ℕ, _+_, _*_, _/_, _≤_, _<_}
 use native.Mathlib.Decide.{decLt}
 use native.Mathlib.Omega.{arith}
-use mathlib.Core.Bool.{Bool, true, false, and-false, false≢true}
+use mathlib.Core.Bool.{Bool, true, false, and-false}
 use mathlib.Core.List.{List, [], _∷_}
 use mathlib.Core.Path.{_≡_, refl, sym, ap, subst, _∙_}
 use lib.ListN.{length, getD}
@@ -12,6 +12,7 @@ use borrow.Author.Tests.{eq-eqb, le-ltb}
 use Rattle.terms.specs.Below.{sumBelow, fails, sum-same, sum-beyond}
 use Rattle.interval_store_manager.specs.Calls.{Decided}
 use Rattle.placement.specs.AlignmentLaws.{pointRoom}
+use Rattle.placement.specs.Growth.{grown}
 use Rattle.store_definitions.specs.declared.Shape.{Shape}
 use Rattle.store_definitions.specs.Memory.{Memory, PointStore}
 use Rattle.store_definitions.specs.Answers.{is, done, outcome, Output, output}
@@ -34,7 +35,7 @@ use Rattle.guarantee.specs.CopyLaws.{copy-answer, count-answer}
 use Rattle.guarantee.specs.RowCalls.{live-point, live-number-is}
 use Rattle.guarantee.specs.EachCallKeeps.{formed, call-well-formed, call-kept}
 use Rattle.guarantee.specs.Fresh.{fresh}
-use Rattle.guarantee.specs.FloatSpace.{space-refusal}
+use Rattle.guarantee.specs.FloatSpace.{unturned-never-ten, ten-bound}
 
 module _ {E : Type 0} (eq : E → E → Bool) (zeroElement : E) (h : Shape) (start : PointStore E) where
   abbrev storeAfter : List (Call E) → PointStore E
@@ -133,7 +134,7 @@ module _ {E : Type 0} (eq : E → E → Bool) (zeroElement : E) (h : Shape) (sta
 
     -- (g)
     not-short : (c : Call E) → h .«internal_rotation» ≡ false → NotShort eq zeroElement h start c calls
-    not-short (add point code) off = λ e. false≢true (sym off ∙ space-refusal eq zeroElement p point code h then s (holds .well-formed) r e .0)
+    not-short (add point code) off = unturned-never-ten eq zeroElement p point code (holds .well-formed) (r .fits .rotation ∙ off)
     not-short (inc i l) off = tt
     not-short (dec i l) off = tt
     not-short (adjust qs) off = tt
@@ -142,7 +143,11 @@ module _ {E : Type 0} (eq : E → E → Bool) (zeroElement : E) (h : Shape) (sta
     -- (h)
     not-short-within : (c : Call E) → NotShortWithin eq zeroElement h start c calls
     unfolding pointRoom
-    not-short-within (add point code) fits = λ e. omega (arith, fits, space-refusal eq zeroElement p point code h then s (holds .well-formed) r e .1)
+    not-short-within (add point code) fits = λ e.
+        let u = p .header in
+        let b : grown (u .«store_length») (h .dimensions) (h .capacity * h .dimensions) < liveIndices (h .capacity) s * pointRoom (h .«internal_rotation») (h .dimensions) (h .dimensions / h .«shingle_size») + h .dimensions =
+        rw (live-number-is eq h then s p w r, ← (r .fits .dimensions), ← (r .fits .shingle), ← (r .fits .rotation), ← (r .fits .capacity)) (ten-bound eq zeroElement p point code (holds .well-formed) e) in
+        omega (arith, fits, b)
     not-short-within (inc i l) fits = tt
     not-short-within (dec i l) fits = tt
     not-short-within (adjust qs) fits = tt

@@ -89,5 +89,4 @@ module _ {E : Type 0} (eq : E → E → Bool) (h : Shape) (then : Given E → Po
         copies = r .copies;
         sequence = omega (arith, r .sequence);
         window = window-ends;
-        space = r .space;
       }

@@ -92,10 +92,13 @@ record Windows : Type 0 where
   -- H: add 9 9 9 9 does not join, and after compaction and growth its four elements pass the store length
   h : layoutH .free ≡ 6
   h-joins : overlaps eqb 2 2 6 (layoutH .elements) (9 ∷ 9 ∷ 9 ∷ 9 ∷ []) ≡ false
-  h-passes : ltb (grown 8 0 8) (layoutH .free + writtenCount 4 2 false) ≡ true
-  -- run only: a table of 4 does not grow, and one of 5 gets a sixth index
-  four : grown 4 0 10 ≡ 4
-  sixth : grown 5 0 10 ≡ 6
+  h-passes : ltb (grown 8 4 8) (layoutH .free + writtenCount 4 2 false) ≡ true
+  -- run only: a table of 4 gets a fifth index, and one of 5 a sixth
+  fifth : grown 4 1 10 ≡ 5
+  sixth : grown 5 1 10 ≡ 6
+  -- floats of one point, dimensions 4, gain a point's; 30 of them gain a fifth
+  point-more : grown 4 4 40 ≡ 8
+  fifth-more : grown 30 4 40 ≡ 36
   -- run only: in H the last row 5 6 9 9 joins
   h-run : lay (record { elements = layoutH .elements; free = 6; laid = Whole 0 }) (5 ∷ 6 ∷ 9 ∷ 9 ∷ []) ≡ record { elements = 0 ∷ 0 ∷ 3 ∷ 4 ∷ 5 ∷ 6 ∷ 9 ∷ 9 ∷ []; free = 8; laid = Joined 2 }
 
@@ -119,7 +122,9 @@ windows =
       h = refl;
       h-joins = refl;
       h-passes = refl;
-      four = refl;
+      fifth = refl;
       sixth = refl;
+      point-more = refl;
+      fifth-more = refl;
       h-run = refl;
     }

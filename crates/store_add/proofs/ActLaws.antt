@@ -162,8 +162,8 @@ module _ (p : PointStore ℕ) (w : Sound p) (full : tableFull (p .header) ≡ fa
   grown-well =
       elim (ℕ-discrete (h .«index_manager» .last_in_use) 0) [
         | yes e ↦
-            let longer : ℕ = grown (tableLength h) 0 (h .capacity) in
-            let g = grown-ready p w longer (can-grow h (w .table-within) full e) (grown-within (tableLength h) 0 (h .capacity) (w .table-within) .1) in
+            let longer : ℕ = grown (tableLength h) 1 (h .capacity) in
+            let g = grown-ready p w longer (can-grow h (w .table-within) full e) (grown-within (tableLength h) 1 (h .capacity) (w .table-within) .1) in
             let c = g .well .whole in
             rw (eq-eqb (h .«index_manager» .last_in_use) 0 e) (rw c (g .well, (g .some, g .within)))
         | no d ↦ rw (ne-eqb (h .«index_manager» .last_in_use) 0 d) (w .points, (positive (h .«index_manager» .last_in_use) d, w .table-within))
@@ -207,7 +207,7 @@ given-is p code = split (p .header .«store_labels»)
 
 module _ (p : PointStore ℕ) where
   abbrev longer : ℕ
-  longer = grown (tableLength (p .header)) 0 (p .header .capacity)
+  longer = grown (tableLength (p .header)) 1 (p .header .capacity)
 
   abbrev o : ManagerOutcome
   o = changed (p .header .«index_manager») (p .memory .indexStarts) (p .memory .indexEnds) longer

@@ -62,7 +62,7 @@ module _ (s : Store) (elements location : List ℕ) where
         h
         ∙ rw (lt-ltb (s .«store_length») (s .«start_free_region» + s .dimensions) full, sym h, le-ltb (s .«store_length») (free + s .dimensions) g)
 
-    pub room-grown : s .«store_length» < free + s .dimensions → (e′ : List ℕ) (longer : ℕ) → longer ≡ grown (s .«store_length») 0 (s .capacity * s .dimensions) → s .«store_length» ≤ longer → e′ ≡ filled 0 (s .«store_length») (longer - s .«store_length») e → rowsAt free longer e′ l ≡ roomMade 0 s before
+    pub room-grown : s .«store_length» < free + s .dimensions → (e′ : List ℕ) (longer : ℕ) → longer ≡ grown (s .«store_length») (s .dimensions) (s .capacity * s .dimensions) → s .«store_length» ≤ longer → e′ ≡ filled 0 (s .«store_length») (longer - s .«store_length») e → rowsAt free longer e′ l ≡ roomMade 0 s before
     unfolding roomMade short grownRows
     room-grown g e′ longer q m f =
         rw (lt-ltb (s .«store_length») (s .«start_free_region» + s .dimensions) full, sym h, lt-ltb (s .«store_length») (free + s .dimensions) g, sym q, f)
@@ -180,8 +180,8 @@ unfolding writtenCount
 written-most dims base true h = h
 written-most dims base false h = omega arith
 
-pub grown-fits : (n capacity new : ℕ) → n ≤ capacity → new ≡ grown n 0 capacity → (n ≤ new) × (new ≤ capacity)
-grown-fits n capacity new h e = rw e (grown-within n 0 capacity h)
+pub grown-fits : (n least limit new : ℕ) → n ≤ limit → new ≡ grown n least limit → (n ≤ new) × (new ≤ limit)
+grown-fits n least limit new h e = rw e (grown-within n least limit h)
 
 module _ (s : Store) (elements location : List ℕ) (w : Roomy s elements location) (e l : List ℕ) (free storeLength : ℕ) where
   pub compact-sound : rowsAt free storeLength e l ≡ compactedRows 0 s (rowsIn s elements location) → RowsOf s (rowsAt free storeLength e l)

@@ -42,7 +42,7 @@ module _ (capacity : ℕ) (t : Counted) (location : List ℕ) where
   change-asks g new h =
       (g .well .managed, (omega (arith, g .capacity-most), and-make _ _ (le-leb new (length (t .starts)) (omega (arith, g .starts-lent))) (le-leb new (length (t .ends)) (omega (arith, g .ends-lent)))))
 
-  pub grown-is : t .manager .last_in_use ≡ 0 → (new : ℕ) → new ≡ grown n 0 capacity → n ≤ new → (counts location′ : List ℕ) → counts ≡ filled 0 n (new - n) (t .counts) → location′ ≡ filled 65535 n (new - n) location → (r : IntervalStoreManager) (ss es : List ℕ) → outcome done r ss es ≡ changed (t .manager) (t .starts) (t .ends) new → (counted r counts ss es ≡ grownTable capacity t) × (location′ ≡ grownPlaces capacity t location)
+  pub grown-is : t .manager .last_in_use ≡ 0 → (new : ℕ) → new ≡ grown n 1 capacity → n ≤ new → (counts location′ : List ℕ) → counts ≡ filled 0 n (new - n) (t .counts) → location′ ≡ filled 65535 n (new - n) location → (r : IntervalStoreManager) (ss es : List ℕ) → outcome done r ss es ≡ changed (t .manager) (t .starts) (t .ends) new → (counted r counts ss es ≡ grownTable capacity t) × (location′ ≡ grownPlaces capacity t location)
   unfolding grownTable grownPlaces entriesFilled
   grown-is e new q m counts location′ f g r ss es h = (
     rw (eq-eqb (t .manager .last_in_use) 0 e, sym q, f ∙ fill-is 0 n new (t .counts) m)

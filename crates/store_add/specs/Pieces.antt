@@ -46,14 +46,14 @@ labelFor s l code =
 unfoldable pub grownTable : ℕ → Counted → Counted
 grownTable capacity t =
     let n = t .manager .capacity in
-    let longer = grown n 0 capacity in
+    let longer = grown n 1 capacity in
     let o = changed (t .manager) (t .starts) (t .ends) longer in
     cond (eqb (t .manager .last_in_use) 0) (counted (o .manager) (entriesFilled n longer 0 (t .counts)) (o .starts) (o .ends)) t
 
 unfoldable pub grownPlaces : ℕ → Counted → List ℕ → List ℕ
 grownPlaces capacity t location =
     let n = t .manager .capacity in
-    cond (eqb (t .manager .last_in_use) 0) (entriesFilled n (grown n 0 capacity) 65535 location) location
+    cond (eqb (t .manager .last_in_use) 0) (entriesFilled n (grown n 1 capacity) 65535 location) location
 
 -- an index taken, with the table and the places after it
 pub record IndexGiven : Type 0 where

@@ -44,7 +44,7 @@ fn table_full(s: Store) -> bool
 {
     let manager = s.index_manager;
     if manager.last_in_use == 0 {
-        return grown_length(manager.capacity, 0, s.capacity) == manager.capacity;
+        return grown_length(manager.capacity, 1, s.capacity) == manager.capacity;
     }
     false
 }

@@ -54,7 +54,7 @@ fn make_room(s: Store, store: &mut [FloatBits], location: &mut [u16]) -> Extent
             store_length: length,
         };
     }
-    let longer = grown_length(length, 0, s.capacity * dimensions);
+    let longer = grown_length(length, dimensions, s.capacity * dimensions);
     grow_store(store, length, longer);
     Extent {
         start_free_region: start,

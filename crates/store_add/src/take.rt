@@ -85,7 +85,7 @@ fn grow_points(
 {
     if manager.last_in_use == 0 {
         let old = manager.capacity;
-        let new = grown_length(old, 0, capacity);
+        let new = grown_length(old, 1, capacity);
         grow_table(reference_count, location, old, new);
         return manager.change_capacity_unchecked(index_starts, index_ends, new);
     }

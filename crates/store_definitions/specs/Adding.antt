@@ -31,7 +31,7 @@ waits s = s .«internal_shingling» && ltb (s .«next_sequence_index» + 1) (s .
 
 -- 'no index free and the table cannot grow'
 unfoldable pub tableFull : Store → Bool
-tableFull s = eqb (s .«index_manager» .last_in_use) 0 && eqb (grown (tableLength s) 0 (s .capacity)) (tableLength s)
+tableFull s = eqb (s .«index_manager» .last_in_use) 0 && eqb (grown (tableLength s) 1 (s .capacity)) (tableLength s)
 
 -- the entries from `from` up to `to` made x
 unfoldable pub entriesFilled : ℕ → ℕ → ℕ → List ℕ → List ℕ
@@ -86,14 +86,14 @@ module _ {E : Type 0} where
       (withLabels (labelTaken classTable (p .header .capacity) (labelHalf p) code .after) p)
       p
 
-  -- 'If the index manager is empty, table length n becomes n + n / 5 (whole division), at most capacity.' Growth fills new entries
-  -- with count 0 and an empty place
+  -- 'If the index manager is empty, table length n becomes n + n / 5 (whole division), at most capacity', and 'the table gains at
+  -- least one index'. Growth fills new entries with count 0 and an empty place
   unfoldable pub tableGrown : PointStore E → PointStore E
   tableGrown p =
       let s = p .header in
       let m = p .memory in
       let n = tableLength s in
-      let longer = grown n 0 (s .capacity) in
+      let longer = grown n 1 (s .capacity) in
       let o = changed (s .«index_manager») (m .indexStarts) (m .indexEnds) longer in
       cond (eqb (s .«index_manager» .last_in_use) 0)
       (withPoints

@@ -22,10 +22,11 @@ module _ {E : Type 0} (zeroElement : E) where
       let l = compacted zeroElement (s .dimensions) (baseOf s) (s .«internal_rotation») (r .elements) (take n (r .location)) (r .free) in
       record { elements = l .elements; location = l .location ++ drop n (r .location); free = l .free; storeLength = r .storeLength }
 
-  -- 'the store length grows by a fifth likewise, up to capacity × dimensions', and growth fills with 0.0
+  -- 'the store length grows by a fifth likewise, up to capacity × dimensions', and gains 'at least one point's floats'; growth fills
+  -- with 0.0
   unfoldable pub grownRows : Store → Rows E → Rows E
   grownRows s r =
-      let longer = grown (r .storeLength) 0 (s .capacity * s .dimensions) in
+      let longer = grown (r .storeLength) (s .dimensions) (s .capacity * s .dimensions) in
       record {
         elements = take (r .storeLength) (r .elements) ++ replicate (longer - r .storeLength) zeroElement ++ drop longer (r .elements);
         location = r .location;

@@ -1,5 +1,5 @@
--- Document 01, 'Worked windows': cases A to H as one table, and the theorem that the calls' definitions give what it says. The
--- elements are float words, compared as the calls compare them; the memory lent to each opening holds rubbish.
+-- Document 01, 'Worked windows': cases A to H and a small start as one table, and the theorem that the calls' definitions give what it
+-- says. The elements are float words, compared as the calls compare them; the memory lent to each opening holds rubbish.
 use Prim.Native.Nat.{ℕ, _*_}
 use mathlib.Core.Bool.{Bool, true, false, _&&_}
 use mathlib.Core.List.{List, [], _∷_, _++_}
@@ -31,7 +31,7 @@ use Rattle.store_definitions.specs.Answers.{Answer, kept, waiting, done,
 use Rattle.store_definitions.specs.Opening.{openDecided, openedMemory, opened, openSpec}
 use Rattle.store_definitions.specs.Counting.{decTest, placeAfterDec, decremented, decSpec, liveNumberSpec, freeStartSpec}
 use Rattle.store_definitions.specs.Rows.{compactedRows, grownRows, short, roomMade, compactSpec, copyOf, copyDecided, copyWritten, copySpec}
-use Rattle.store_definitions.specs.Adding.{pointLength, waits, tableFull, addDecided, windowAfter, sequenced, rowOf, labelGiven, labelled, tableGrown, placed, joins, overflows, laidRows, laidHow, keptAfter, indexGiven, keeps, addSpec}
+use Rattle.store_definitions.specs.Adding.{pointLength, waits, tableFull, addDecided, windowAfter, sequenced, rowOf, labelGiven, labelled, entriesFilled, tableGrown, placed, joins, overflows, laidRows, laidHow, keptAfter, indexGiven, keeps, addSpec}
 use Rattle.store_definitions.specs.Bounds.{boundsHold, startAllowed, rotationAllowed, lentEnough}
 use Rattle.store_definitions.specs.Decisions.{formDecided, live, touchDecided}
 use Rattle.store_definitions.specs.WellFormed.{tableLengthWell, storeLengthWell, freeStartWell, emptyUncounted, placesDistinct, placesEnd, sequenceWell, wellFormed}
@@ -211,6 +211,13 @@ cases =
       copiedIndex = 1;
       said = record { answers = done ∷ kept 0 none (Whole 0) ∷ kept 1 none (Joined 1) ∷ done ∷ refused 10 ∷ []; places = e ∷ 1 ∷ []; before = floats (0 ∷ 0 ∷ 3 ∷ 4 ∷ 5 ∷ 6 ∷ []); free = is 6; live = is 1; copy = copies (5 ∷ 6 ∷ 3 ∷ 4 ∷ []) };
     }
+    -- a start of 1 grows to its capacity of 3, by an index and a point's floats at a time; there an index is denied
+    ∷ record {
+      opening = shape false false 3 1;
+      calls = add (1 ∷ 2 ∷ 3 ∷ 4 ∷ []) ∷ add (5 ∷ 6 ∷ 7 ∷ 8 ∷ []) ∷ add (9 ∷ 9 ∷ 9 ∷ 9 ∷ []) ∷ add (1 ∷ 2 ∷ 3 ∷ 4 ∷ []) ∷ [];
+      copiedIndex = 2;
+      said = record { answers = done ∷ kept 0 none (Whole 0) ∷ kept 1 none (Whole 2) ∷ kept 2 none (Whole 4) ∷ refused 9 ∷ []; places = 0 ∷ 2 ∷ 4 ∷ []; before = floats (1 ∷ 2 ∷ 3 ∷ 4 ∷ 5 ∷ 6 ∷ 7 ∷ 8 ∷ 9 ∷ 9 ∷ 9 ∷ 9 ∷ []); free = is 12; live = is 3; copy = copies (9 ∷ 9 ∷ 9 ∷ 9 ∷ []) };
+    }
     ∷ []
 
 -- an answer as numbers: which kind it is, and what it holds
@@ -244,5 +251,5 @@ hold (c ∷ cs) = agree (ran c) (c .said) && hold cs
 
 -- every case gives what is said of it
 worked-windows : hold cases ≡ true
-unfolding shape rubbish floats called run ran copies cases numbers same alike agree hold eq ofInt ofFields ofBits toBits wordsEqual everyBelow sumBelow countBelow allEqual pushed changed taken released inside holders isFree inBounds noneShared capacityAllowed stackLent managerWellFormed wrappingSub wrappingAdd alignment zerosBefore holds liveBelow moved grownBlocks blocks blockMoves copiedDown settled blockDown blocksDown writtenByBlocks compacted turn turned copied grown writtenCount laidAs laidElements laidFree placeOf overlaps rowToLay movedWindow managed freeUncounted countsFit indexTaken lowered codeDecided roomDecided decDecided openDecided openedMemory opened openSpec decTest placeAfterDec decremented decSpec compactedRows grownRows short roomMade compactSpec copyOf copyDecided copyWritten copySpec liveNumber liveNumberSpec freeStartSpec pointLength waits tableFull addDecided windowAfter sequenced rowOf labelGiven labelled tableGrown placed joins overflows laidRows laidHow keptAfter indexGiven keeps addSpec boundsHold startAllowed rotationAllowed lentEnough formDecided live touchDecided tableLengthWell storeLengthWell freeStartWell emptyUncounted placesDistinct placesEnd sequenceWell wellFormed
+unfolding shape rubbish floats called run ran copies cases numbers same alike agree hold eq ofInt ofFields ofBits toBits wordsEqual everyBelow sumBelow countBelow allEqual pushed changed taken released inside holders isFree inBounds noneShared capacityAllowed stackLent managerWellFormed wrappingSub wrappingAdd alignment zerosBefore holds liveBelow moved grownBlocks blocks blockMoves copiedDown settled blockDown blocksDown writtenByBlocks compacted turn turned copied grown writtenCount laidAs laidElements laidFree placeOf overlaps rowToLay movedWindow managed freeUncounted countsFit indexTaken lowered codeDecided roomDecided decDecided openDecided openedMemory opened openSpec decTest placeAfterDec decremented decSpec compactedRows grownRows short roomMade compactSpec copyOf copyDecided copyWritten copySpec liveNumber liveNumberSpec freeStartSpec pointLength waits tableFull addDecided windowAfter sequenced rowOf labelGiven labelled entriesFilled tableGrown placed joins overflows laidRows laidHow keptAfter indexGiven keeps addSpec boundsHold startAllowed rotationAllowed lentEnough formDecided live touchDecided tableLengthWell storeLengthWell freeStartWell emptyUncounted placesDistinct placesEnd sequenceWell wellFormed
 worked-windows = refl

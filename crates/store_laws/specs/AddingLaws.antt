@@ -67,13 +67,13 @@ module _ {E : Type 0} (p : PointStore E) (w : Sound p) (n : ℕ) (t : Counted) (
       stored (λ x. x ≤ 65535) (t .counts) i 1 k (omega (arith, below, ready .well .lent)) (λ e. omega arith) (λ d. ready .counts-most k h))
 
 -- a table that is empty and not full can grow
-pub can-grow : (s : Store) → tableLength s ≤ s .capacity → tableFull s ≡ false → s .«index_manager» .last_in_use ≡ 0 → tableLength s < grown (tableLength s) 0 (s .capacity)
+pub can-grow : (s : Store) → tableLength s ≤ s .capacity → tableFull s ≡ false → s .«index_manager» .last_in_use ≡ 0 → tableLength s < grown (tableLength s) 1 (s .capacity)
 unfolding tableFull
 can-grow s h f e =
     let n : ℕ = tableLength s in
-    let g = grown-within n 0 (s .capacity) h in
-    let d : grown n 0 (s .capacity) ≡ n → ⊥ = eqb-false (grown n 0 (s .capacity)) n (rw (eq-eqb (s .«index_manager» .last_in_use) 0 e) at f) in
-    elim (ℕ-discrete (grown n 0 (s .capacity)) n) [ yes q ↦ absurd (d q) | no q ↦ omega arith ]
+    let g = grown-within n 1 (s .capacity) h in
+    let d : grown n 1 (s .capacity) ≡ n → ⊥ = eqb-false (grown n 1 (s .capacity)) n (rw (eq-eqb (s .«index_manager» .last_in_use) 0 e) at f) in
+    elim (ℕ-discrete (grown n 1 (s .capacity)) n) [ yes q ↦ absurd (d q) | no q ↦ omega arith ]
 
 module _ {E : Type 0} (eq : E → E → Bool) (zeroElement : E) (p : PointStore E) (w : Sound p) (point : List E) (code : ℕ) (k : Kept p point code) where
   abbrev h : Store
@@ -124,14 +124,14 @@ module _ {E : Type 0} (eq : E → E → Bool) (zeroElement : E) (p : PointStore 
       unfolding tableGrown sequenced
       table-well =
           let n : ℕ = tableLength h in
-          let longer : ℕ = grown n 0 (h .capacity) in
+          let longer : ℕ = grown n 1 (h .capacity) in
           let o = changed (h .«index_manager») (p .memory .indexStarts) (p .memory .indexEnds) longer in
           let t : Counted = counted (o .manager) (entriesFilled n longer 0 (p .memory .referenceCount)) (o .starts) (o .ends) in
           let location : List ℕ = entriesFilled n longer 65535 (laid .memory .location) in
           by-cases (λ q. Sound (placed q place)) (eqb (h .«index_manager» .last_in_use) 0) (withPoints t location laid) laid
           (λ e.
           placed-well longer t location
-          (grown-ready laid laid-well longer (can-grow h (w .table-within) (k .not-full) (eqb-true (h .«index_manager» .last_in_use) 0 e)) (grown-within n 0 (h .capacity) (w .table-within) .1)))
+          (grown-ready laid laid-well longer (can-grow h (w .table-within) (k .not-full) (eqb-true (h .«index_manager» .last_in_use) 0 e)) (grown-within n 1 (h .capacity) (w .table-within) .1)))
           (λ e.
           placed-well n (pointTable laid) (laid .memory .location)
           (as-it-is laid laid-well (positive (h .«index_manager» .last_in_use) (eqb-false (h .«index_manager» .last_in_use) 0 e))))

@@ -16,5 +16,6 @@ pub mod WindowLaws
 pub mod AddingLaws
 pub mod OpeningLaws
 pub mod RefusalLaws
+pub mod GrowthLaws
 pub mod IllFormedLaws
 pub mod WellFormedLaws

@@ -57,9 +57,10 @@ module _ (k : ℕ) where
   never-wait-or true a f e = let z : _≡_ {A = ℕ} 0 1 = cc in omega arith
   never-wait-or false a f e = f e
 
-  pub add-never : {E : Type 0} (p : PointStore E) (point : List E) (code : ℕ) → Never k (formDecided p) → (3 ≡ k → ⊥) → (12 ≡ k → ⊥) → (4 ≡ k → ⊥) → (8 ≡ k → ⊥) → (9 ≡ k → ⊥) → NeverAdd (addDecided p point code)
+  -- 9 by its cause, the others by their numbers
+  pub never-but-full : {E : Type 0} (p : PointStore E) (point : List E) (code : ℕ) → Never k (formDecided p) → (3 ≡ k → ⊥) → (12 ≡ k → ⊥) → (4 ≡ k → ⊥) → (8 ≡ k → ⊥) → Never k (refuseIf (tableFull (p .header)) 9) → NeverAdd (addDecided p point code)
   unfolding addDecided
-  add-never p point code form d3 d12 d4 d8 d9 =
+  never-but-full p point code form d3 d12 d4 d8 full =
       let s = p .header in
       let short : Bool = not (eqb (length point) (pointLength s)) in
       let last : Bool = eqb (s .«next_sequence_index») 4294967295 in
@@ -69,8 +70,11 @@ module _ (k : ℕ) where
       (never-then k (refuseIf last 12) _ (never-if k last 12 d12) (code-never d4 (s .«store_labels») code))))
       (never-wait-or (waits s) _
       (never-then-add _ keep
-      (never-then k (roomDecided (s .«store_labels») (s .«label_manager»)) _ (room-never p d8) (never-if k (tableFull s) 9 d9))
+      (never-then k (roomDecided (s .«store_labels») (s .«label_manager»)) _ (room-never p d8) full)
       (λ e. let z : _≡_ {A = ℕ} 0 1 = cc in omega arith)))
+
+  pub add-never : {E : Type 0} (p : PointStore E) (point : List E) (code : ℕ) → Never k (formDecided p) → (3 ≡ k → ⊥) → (12 ≡ k → ⊥) → (4 ≡ k → ⊥) → (8 ≡ k → ⊥) → (9 ≡ k → ⊥) → NeverAdd (addDecided p point code)
+  add-never p point code form d3 d12 d4 d8 d9 = never-but-full p point code form d3 d12 d4 d8 (never-if k (tableFull (p .header)) 9 d9)
 
 module _ {E : Type 0} (eq : E → E → Bool) (zeroElement : E) (p : PointStore E) (point : List E) (code : ℕ) where
   abbrev r : Rows E

@@ -99,10 +99,10 @@ module _ {E : Type 0} (zeroElement : E) (s : Store) (t : tableLength s ≤ s .ca
 
     -- growth by a fifth, in the lent floats
     abbrev longer : ℕ
-    longer = grown (r .storeLength) 0 (s .capacity * s .dimensions)
+    longer = grown (r .storeLength) (s .dimensions) (s .capacity * s .dimensions)
 
     grows : (r .storeLength ≤ longer) × (longer ≤ s .capacity * s .dimensions)
-    grows = grown-within (r .storeLength) 0 (s .capacity * s .dimensions) (w .store-within)
+    grows = grown-within (r .storeLength) (s .dimensions) (s .capacity * s .dimensions) (w .store-within)
 
     same-length : length (grownRows zeroElement s r .elements) ≡ length (r .elements)
     unfolding grownRows

@@ -170,7 +170,7 @@ pub fn refused_for_space() {
 }
 
 pub fn small_starts() {
-    text(b"start 4: no fifth index\n");
+    text(b"start 4: a fifth index\n");
     let b = five_adds(opened(true, false, 10, 4));
     add_two(b, 11, 12);
     text(b"start 5: a sixth index\n");

@@ -35,10 +35,11 @@ pub fn any_opening(list: usize, random: &mut Random) -> Opening {
         dimensions,
         shingle_size: divisors[random.below(divisors.len())],
         capacity,
+        // A start below 5 grows here and not in the Rust, unless it is the capacity.
         initial_capacity: if random.one_in(3) {
             capacity
         } else {
-            random.within(1, capacity)
+            random.within(capacity.min(5), capacity)
         },
         internal_shingling: flags & 1 == 1,
         internal_rotation: flags & 2 == 2,

@@ -22,12 +22,14 @@ pub const OF_THE_MANAGER: [&str; 13] = [
 ];
 
 /// Sown in the store's part.
-pub const OF_THE_STORE: [&str; 36] = [
+pub const OF_THE_STORE: [&str; 38] = [
     "compaction-leaves-old-places",
     "no-zeros-before-a-block",
     "add-never-grows-the-floats",
     "add-never-grows-the-table",
     "growth-keeps-the-lent-floats",
+    "growth-by-a-fifth-alone",
+    "floats-grow-by-one-float",
     "joined-by-equal-bits",
     "code-24-is-taken",
     "copy-never-turns",

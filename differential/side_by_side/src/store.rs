@@ -20,6 +20,7 @@ mod refused_pairs;
 mod rust_side;
 mod short_lists;
 mod sides;
+mod small_starts;
 mod well_formed;
 
 use crate::coverage::Coverage;
@@ -58,6 +59,7 @@ const MADE_UP_CALLS: u64 = 3_000_000;
 const RUBBISH_CALLS: u64 = 2_000_000;
 const BROKEN_EACH: u64 = 1_000;
 const REFUSED_PAIRS_STORES: u64 = 10_000;
+const SMALL_STARTS_EACH: u64 = 20;
 
 fn random_lists(seed: u64) -> Result<Coverage, String> {
     // 1 and 2 need other memory and shapes, 7 needs 65,534 incs.
@@ -92,6 +94,13 @@ fn limits() -> Result<Coverage, String> {
     let mut coverage = counts("store, counts to their limit and back, beside the Rust", &[&owed]);
     limits::counts_to_the_limit(0, &mut coverage)?;
     limits::counts_to_the_limit(1, &mut coverage)?;
+    Ok(coverage)
+}
+
+fn small_starts() -> Result<Coverage, String> {
+    let owed = [&small_starts::KINDS.concat()[..], &["refusal 9 of add"]];
+    let mut coverage = counts("store, starts of 1 to 4 that grow to their capacity", &owed);
+    small_starts::grown_to_capacity(15, share(SMALL_STARTS_EACH).max(1), &mut coverage)?;
     Ok(coverage)
 }
 
@@ -161,7 +170,7 @@ fn rubbish() -> Result<Coverage, String> {
 type Part = fn() -> Result<Coverage, String>;
 
 /// The random lists come last, in four parts under one title.
-const PARTS: [Part; 13] = [
+const PARTS: [Part; 14] = [
     name,
     differences,
     recorded,
@@ -169,6 +178,7 @@ const PARTS: [Part; 13] = [
     refused_pairs,
     rubbish,
     limits,
+    small_starts,
     made_up,
     short_lists,
     || random_lists(1),

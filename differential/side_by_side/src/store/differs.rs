@@ -25,7 +25,7 @@ struct Difference {
     /// Calls that both take.
     calls: Vec<Call>,
     last: Call,
-    /// What the library answers to the last call.
+    /// What the library answers to the last call; 0 where it takes it.
     refusal: u64,
     rust: Rust,
     /// What is seen in the Rust after it, and not here.
@@ -276,16 +276,16 @@ fn errors_and_panics() -> Vec<Difference> {
         ),
         row(
             "no point index free, labels on",
-            shape_of([1, 1, 2, 1], "l"),
-            vec![add(&[1], 0)],
+            shape_of([1, 1, 2, 2], "l"),
+            vec![add(&[1], 0), add(&[1], 0), Call::Inc(0, 0), Call::Dec(0, 1)],
             add(&[1], 0),
             9,
             Rust::Error,
-            |rust| rust.label_count(1) == 1 && rust.slot_count(0) == 2 && rust.sequence() == 2,
+            |rust| rust.label_count(1) == 1 && rust.slot_count(0) == 3 && rust.sequence() == 3,
         ),
         row(
             "no point index free, after a compaction",
-            shape_of([2, 2, 4, 3], ""),
+            shape_of([2, 2, 3, 3], ""),
             vec![
                 add(&[1, 2], 0),
                 add(&[2, 3], 0),
@@ -297,6 +297,35 @@ fn errors_and_panics() -> Vec<Difference> {
             9,
             Rust::Error,
             |rust| *rust.places() == [2, 0, 1] && rust.free_start() == 4,
+        ),
+    ]
+}
+
+/// Starts below 5 grow here.
+fn small_starts() -> [Difference; 2] {
+    let row = |name, opening, calls, last, rust| Difference {
+        name,
+        opening,
+        calls,
+        last,
+        refusal: 0,
+        rust,
+        seen: any,
+    };
+    [
+        row(
+            "an index more at a start below 5",
+            shape_of([1, 1, 2, 1], ""),
+            vec![add(&[1], 0)],
+            add(&[1], 0),
+            Rust::Error,
+        ),
+        row(
+            "floats more at a start below 5",
+            shape_of([2, 2, 3, 2], "r"),
+            vec![add(&[1, 2], 0), add(&[2, 3], 0), Call::Dec(0, NONE)],
+            add(&[9, 9], 0),
+            Rust::Panics,
         ),
     ]
 }
@@ -324,12 +353,9 @@ fn try_one(d: &Difference) -> Result<(), String> {
         Outcome::Error => Rust::Error,
         Outcome::Panic => Rust::Panics,
     };
-    let kept = value == 10 || memory == before;
+    let kept = value == 0 || value == 10 || memory == before;
     if value != d.refusal || !kept || outcome != d.rust || !(d.seen)(&mut rust) {
-        return Err(format!(
-            "{}: refused with {value}; the Rust {outcome:?}: {rust:?}",
-            d.name
-        ));
+        return Err(format!("{}: {value} here; the Rust {outcome:?}: {rust:?}", d.name));
     }
     Ok(())
 }
@@ -381,6 +407,10 @@ pub fn each(coverage: &mut Coverage) -> Result<(), String> {
             Rust::Panics => "refused here, a panic in the Rust",
         });
     }
+    for d in &small_starts() {
+        try_one(d)?;
+        coverage.meet("taken here, refused by the Rust");
+    }
     sequence_at_its_limit()?;
     coverage.meet("refused here, taken by the Rust");
     old_slot_kept()?;
@@ -388,9 +418,10 @@ pub fn each(coverage: &mut Coverage) -> Result<(), String> {
     Ok(())
 }
 
-pub const KINDS: [&str; 4] = [
+pub const KINDS: [&str; 5] = [
     "refused here, taken by the Rust",
     "refused here, partly made and an error in the Rust",
     "refused here, a panic in the Rust",
     "answered otherwise by the Rust",
+    "taken here, refused by the Rust",
 ];

@@ -1,5 +1,6 @@
 //! The kinds that the store's parts count.
 use super::call::NAMES;
+use super::model_rows::PAST_A_FIFTH;
 use std::sync::OnceLock;
 
 /// Document 01's refusals: of each call in the order of `NAMES`.
@@ -25,7 +26,7 @@ const REFUSALS: [&[u64]; 18] = [
 ];
 
 /// What calls meet on their way.
-pub const ON_THE_WAY: [&str; 25] = [
+pub const ON_THE_WAY: [&str; 26] = [
     "a Waiting add",
     "Whole",
     "Joined",
@@ -34,6 +35,7 @@ pub const ON_THE_WAY: [&str; 25] = [
     "the table grew",
     "the floats grew",
     "the floats grew to no multiple of base",
+    PAST_A_FIFTH,
     "a compaction",
     "a compaction that moved",
     "a compaction of several blocks",

@@ -31,10 +31,12 @@ pub fn any_opening(bounds: Bounds, random: &mut Random) -> Opening {
     let divisors: Vec<usize> = (1..=dimensions).filter(|d| dimensions % d == 0).collect();
     let most = bounds.capacity.min(16_384 / dimensions);
     let capacity = if random.one_in(6) { most } else { random.within(1, most) };
+    // Mostly a start that the Rust grows too.
+    let least = if random.one_in(4) { 1 } else { capacity.min(5) };
     let initial_capacity = match random.below(4) {
         0 => capacity,
-        1 => random.within(1, capacity.min(8)),
-        _ => random.within(1, capacity),
+        1 => random.within(least, capacity.min(8)),
+        _ => random.within(least, capacity),
     };
     Opening {
         dimensions,

@@ -10,10 +10,25 @@ pub fn float_equal(a: u32, b: u32) -> bool {
     f32::from_bits(a) == f32::from_bits(b)
 }
 
-/// A fifth more, at most `limit`.
-fn grown(length: usize, limit: usize) -> usize {
-    (length + length / 5).min(limit)
+/// A fifth more and at least `least`, at most `limit`.
+fn grown(length: usize, least: usize, limit: usize) -> usize {
+    let least = if mutant::is("growth-by-a-fifth-alone") {
+        0
+    } else {
+        least
+    };
+    (length + least.max(length / 5)).min(limit)
 }
+
+/// The Rust grows by a fifth alone.
+fn meet_growth(length: usize, new: usize, limit: usize, met: &mut Met) {
+    if new != (length + length / 5).min(limit) {
+        met.push(PAST_A_FIFTH);
+    }
+}
+
+/// From here on the Rust is another store.
+pub const PAST_A_FIFTH: &str = "growth by more than a fifth";
 
 pub fn add(m: &mut Lent, point: &[u32], code: usize, r: &mut Returned, met: &mut Met) -> u64 {
     let s = shape(m);
@@ -61,7 +76,7 @@ fn made_room(m: &mut Lent, window: &[u32], point: &[u32], met: &mut Met) -> u64 
         return 8;
     }
     let table = word(m, TABLE_LENGTH);
-    let can_grow = grown(table, s.capacity) > table && !mutant::is("add-never-grows-the-table");
+    let can_grow = grown(table, 1, s.capacity) > table && !mutant::is("add-never-grows-the-table");
     if point_stack(m).is_empty() && !can_grow {
         return 9;
     }
@@ -83,7 +98,14 @@ fn made_room(m: &mut Lent, window: &[u32], point: &[u32], met: &mut Met) -> u64 
 fn grow_floats(m: &mut Lent, met: &mut Met) {
     let s = shape(m);
     let old = word(m, STORE_LENGTH);
-    let new = grown(old, s.capacity * s.dimensions);
+    let limit = s.capacity * s.dimensions;
+    let least = if mutant::is("floats-grow-by-one-float") {
+        1
+    } else {
+        s.dimensions
+    };
+    let new = grown(old, least, limit);
+    meet_growth(old, new, limit, met);
     if new > old {
         met.push("the floats grew");
         if new % s.base != 0 {
@@ -133,7 +155,8 @@ fn take_point(m: &mut Lent, row: &[u32], r: &mut Returned, met: &mut Met) {
     let s = shape(m);
     if point_stack(m).is_empty() {
         let old = word(m, TABLE_LENGTH);
-        let new = grown(old, s.capacity);
+        let new = grown(old, 1, s.capacity);
+        meet_growth(old, new, s.capacity, met);
         met.push("the table grew");
         m.reference_count[old..new].fill(0);
         m.location[old..new].fill(EMPTY);

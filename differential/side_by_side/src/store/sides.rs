@@ -3,6 +3,7 @@
 use super::call::{Call, Returned, UNTOUCHED, UNTOUCHED_WORD};
 use super::memory::*;
 use super::model::Met;
+use super::model_rows::PAST_A_FIFTH;
 use super::rust_side::Outcome;
 use super::{kinds, library_side, model, rust_side};
 use crate::coverage::Coverage;
@@ -116,6 +117,9 @@ impl Sides {
         let Some(mut rust) = self.rust.take() else {
             return Ok(());
         };
+        if self.met.contains(&PAST_A_FIFTH) {
+            return Ok(());
+        }
         if let Call::Open(_) = call {
             self.lent.clone_from(&self.before);
             self.slots = true;

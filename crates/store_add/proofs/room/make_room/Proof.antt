@@ -52,7 +52,7 @@ grown-length-requires c κs = search needs
 grow-store-requires : tie.Need-grow-store-requires
 grow-store-requires c κs = let a = c .before .before .before .before .before .before .before .before .before .before .before .before .before .before .before .args in
     let pre = c .before .before .before .before .before .before .before .before .before .before .before .before .before .before .before .pre in
-    let g = grown-fits (a .s .«store_length») (a .s .capacity * a .s .dimensions) (c .before .grown-length .result) (pre .rows .store-within) (c .before .grown-length .ensures) in
+    let g = grown-fits (a .s .«store_length») (a .s .dimensions) (a .s .capacity * a .s .dimensions) (c .before .grown-length .result) (pre .rows .store-within) (c .before .grown-length .ensures) in
     (g .0, omega (arith, g .1, pre .rows .floats-lent, c .before .before .before .before .before .before .before .before .compact .kept .0))
 
 same-length-3 : tie.Need-same-length-3
@@ -66,7 +66,7 @@ returns-3 c = let a = c .before .before .before .before .before .before .before 
     let pre = c .before .before .before .before .before .before .before .before .before .before .before .before .before .before .before .before .before .before .pre in
     let cp = c .before .before .before .before .before .before .before .before .before .before .before .compact in
     let h = compact-is (a .s) (a .store .now) (a .location .now) (cp .last .0) (cp .last .1 .0) (cp .result) (cp .ensures) in
-    let g = grown-fits (a .s .«store_length») (a .s .capacity * a .s .dimensions) (c .before .before .before .before .grown-length .result) (pre .rows .store-within) (c .before .before .before .before .grown-length .ensures) in
+    let g = grown-fits (a .s .«store_length») (a .s .dimensions) (a .s .capacity * a .s .dimensions) (c .before .before .before .before .grown-length .result) (pre .rows .store-within) (c .before .before .before .before .grown-length .ensures) in
     let gs = c .before .before .grow-store in
     room-grown (a .s) (a .store .now) (a .location .now) (c .before .before .before .before .before .before .before .before .before .before .before .before .before .before .before .if1 .left) (cp .last .0) (cp .last .1 .0) (cp .result) h (c .before .before .before .before .before .before .if2 .left) (gs .last .0) (c .before .before .before .before .grown-length .result) (c .before .before .before .before .grown-length .ensures) (g .0) (gs .ensures)
 

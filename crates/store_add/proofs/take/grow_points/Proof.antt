@@ -13,14 +13,14 @@ grown-length-requires c κs = search needs
 grow-table-requires : tie.Need-grow-table-requires
 grow-table-requires c κs = let a = c .before .before .before .before .before .before .before .before .before .args in
     let pre = c .before .before .before .before .before .before .before .before .before .pre in
-    let g = grown-fits (a .manager .capacity) (a .capacity) (c .before .before .grown-length .result) (pre .within) (c .before .before .grown-length .ensures) in
+    let g = grown-fits (a .manager .capacity) 1 (a .capacity) (c .before .before .grown-length .result) (pre .within) (c .before .before .grown-length .ensures) in
     (g .0, omega (arith, g .1, pre .counts-lent), omega (arith, g .1, pre .places-lent))
 
 change-capacity-unchecked-requires : tie.Need-change-capacity-unchecked-requires
 change-capacity-unchecked-requires c κs = let a = c .before .before .before .before .before .before .before .before .before .before .before .before .before .before .before .before .args in
     let pre = c .before .before .before .before .before .before .before .before .before .before .before .before .before .before .before .before .pre in
     let t = counted (a .manager) (a .reference-count .now) (a .index-starts .now) (a .index-ends .now) in
-    let g = grown-fits (a .manager .capacity) (a .capacity) (c .before .before .before .before .before .before .before .before .before .grown-length .result) (pre .within) (c .before .before .before .before .before .before .before .before .before .grown-length .ensures) in
+    let g = grown-fits (a .manager .capacity) 1 (a .capacity) (c .before .before .before .before .before .before .before .before .before .grown-length .result) (pre .within) (c .before .before .before .before .before .before .before .before .before .grown-length .ensures) in
     change-asks (a .capacity) t (a .location .now) pre (c .before .before .before .before .before .before .before .before .before .grown-length .result) (g .1)
 
 same-length : tie.Need-same-length
@@ -39,7 +39,7 @@ returns : tie.Need-returns
 returns c = let a = c .before .before .before .before .before .before .before .before .before .before .before .before .before .before .before .before .before .before .before .before .before .args in
     let pre = c .before .before .before .before .before .before .before .before .before .before .before .before .before .before .before .before .before .before .before .before .before .pre in
     let t = counted (a .manager) (a .reference-count .now) (a .index-starts .now) (a .index-ends .now) in
-    let g = grown-fits (a .manager .capacity) (a .capacity) (c .before .before .before .before .before .before .before .before .before .before .before .before .before .before .grown-length .result) (pre .within) (c .before .before .before .before .before .before .before .before .before .before .before .before .before .before .grown-length .ensures) in
+    let g = grown-fits (a .manager .capacity) 1 (a .capacity) (c .before .before .before .before .before .before .before .before .before .before .before .before .before .before .grown-length .result) (pre .within) (c .before .before .before .before .before .before .before .before .before .before .before .before .before .before .grown-length .ensures) in
     let gt = c .before .before .before .before .before .before .before .before .before .before .before .grow-table in
     let ch = c .before .before .before .before .change-capacity-unchecked in
     grown-is (a .capacity) t (a .location .now) (c .before .before .before .before .before .before .before .before .before .before .before .before .before .before .before .if1 .taken) (c .before .before .before .before .before .before .before .before .before .before .before .before .before .before .grown-length .result) (c .before .before .before .before .before .before .before .before .before .before .before .before .before .before .grown-length .ensures) (g .0) (gt .last .0) (gt .last .1 .0) (gt .ensures .0) (gt .ensures .1) (ch .result) (ch .last .1 .0) (ch .last .1 .1 .0) (ch .ensures)
