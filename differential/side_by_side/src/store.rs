@@ -1,27 +1,27 @@
 //! The store.
 mod beyond;
-mod breaking;
-mod call;
+pub mod breaking;
+pub mod call;
 mod differs;
-mod guess;
-mod kinds;
-mod lent;
-mod library_side;
+pub mod guess;
+pub mod kinds;
+pub mod lent;
+pub mod library_side;
 mod limits;
 mod lists;
-mod made_up;
-mod memory;
-mod model;
+pub mod made_up;
+pub mod memory;
+pub mod model;
 mod model_readings;
-mod model_rows;
+pub mod model_rows;
 mod name;
 mod recorded;
 mod refused_pairs;
-mod rust_side;
+pub mod rust_side;
 mod short_lists;
-mod sides;
+pub mod sides;
 mod small_starts;
-mod well_formed;
+pub mod well_formed;
 
 use crate::coverage::Coverage;
 use std::sync::atomic::{AtomicUsize, Ordering};
@@ -29,7 +29,7 @@ use std::sync::Mutex;
 use std::thread;
 
 /// What the Rust does with a call that is refused here.
-const REFUSED: [&str; 3] = [
+pub const REFUSED: [&str; 3] = [
     "refused here, an error in the Rust",
     "refused here, a panic in the Rust",
     "refused here, taken by the Rust",
@@ -48,7 +48,7 @@ fn counts(title: &'static str, owed: &[&[&'static str]]) -> Coverage {
 }
 
 /// How many of a hundred calls are made of those that a full run makes: `SHARE`, 100 where it is not set.
-fn share(calls: u64) -> u64 {
+pub fn share(calls: u64) -> u64 {
     let percent = std::env::var("SHARE").map_or(100, |s| s.parse().expect("SHARE is a number"));
     calls * percent / 100
 }
