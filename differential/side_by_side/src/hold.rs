@@ -67,7 +67,8 @@ fn made_up() -> Result<Coverage, String> {
 fn broken() -> Result<Coverage, String> {
     let owed = [
         &well_formed::CLAUSES[..],
-        &OF_STORE,
+        // Too few words are a clause of the hold's own.
+        &OF_STORE[1..],
         &[
             "refusal 1 of hold_add",
             "refusal 1 of hold_held",

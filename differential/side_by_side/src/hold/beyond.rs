@@ -93,11 +93,11 @@ pub fn each_clause_broken(seed: u64, each: u64, coverage: &mut Coverage) -> Resu
             }
         }
     }
-    for clause in OF_STORE {
+    for clause in &OF_STORE[1..] {
         for _ in 0..each {
             let mut h = any_hold(SMALL, &mut random)?;
             h.store = with_broken_store(clause, h.store, &mut random);
-            if broken_store(&h.store) == [clause] && broken(&h) == [ILL_FORMED_STORE] {
+            if broken_store(&h.store) == [*clause] && broken(&h) == [ILL_FORMED_STORE] {
                 coverage.meet(clause);
                 refused_with_1(h, clause, &mut random, coverage)?;
             }

@@ -190,7 +190,7 @@ impl HoldSides {
             ));
         }
         let oldest = self.kept.as_ref().and_then(|kept| kept.front());
-        if let (Some(_), Some(oldest)) = (got.kept(), oldest) {
+        if let (HoldCall::Add { .. }, Some(_), Some(oldest)) = (call, got.kept(), oldest) {
             let full = self.kept.as_ref().is_some_and(|kept| kept.len() == width(&self.model));
             let dec = Call::Dec(oldest.index, oldest.label);
             if full && !matches!(rust_side::made(&dec, s, &mut rust), Outcome::Answered(_)) {
@@ -200,6 +200,8 @@ impl HoldSides {
                 ));
             }
         }
+        // The Rust knows nothing of the hold's own two words.
+        self.lent.store.words[WIDTH..HOLD_WORDS].copy_from_slice(&self.library.store.words[WIDTH..HOLD_WORDS]);
         if let Some(part) = rust_side::difference(&self.library.store, &self.lent.store, &rust, self.slots) {
             return Err(format!(
                 "{part} differ after {call:?}\n    on {:?}\n    leaves {:?}\nthe Rust: {rust:?}",
