@@ -24,8 +24,9 @@ use Rattle.store_laws.specs.Cases.{by-cases}
 use Rattle.store_laws.specs.Sound.{sound}
 use Rattle.store_laws.specs.AddingLaws.{add-keeps}
 use Rattle.hold_definitions.specs.Memory.{PointHold, pointHold, storeOf, indicesOf, labelsOf}
+use Rattle.hold_definitions.specs.Answers.{HoldOutcome, holdOutcome}
 use Rattle.hold_definitions.specs.WellFormed.{holdWellFormed}
-use Rattle.hold_definitions.specs.Adding.{HoldOutcome, holdOutcome, writtenTo, withStore, withList, oldestLabel, gaveUp, holding, heldAfter, holdAdded}
+use Rattle.hold_definitions.specs.Adding.{writtenTo, withStore, withList, oldestLabel, gaveUp, holding, heldAfter, holdAdded}
 use Rattle.hold_definitions.specs.CountsAfter.{Gained, Leaves, add-leaves, counted-inside, countNow}
 use Rattle.hold_definitions.specs.Sound.{HoldSound, hold-sound}
 use Rattle.hold_definitions.specs.NamesLaws.{gained-names, oldest-decided}

@@ -3,7 +3,8 @@
 ghost use mathlib.Core.Bool.{true};
 ghost use mathlib.Core.Path.{_≡_};
 ghost use Rattle.float_bits.specs.Words.{wordsEqual};
-ghost use Rattle.hold_definitions.specs.Adding.{holdOutcome, holdAdded, holdAddSpec};
+ghost use Rattle.hold_definitions.specs.Adding.{holdAdded, holdAddSpec};
+ghost use Rattle.hold_definitions.specs.Answers.{holdOutcome};
 ghost use Rattle.hold_definitions.specs.Lent.{holdHeld, holdEntered, holdLeft};
 ghost use Rattle.hold_definitions.specs.Memory.{pointHold};
 ghost use Rattle.hold_definitions.specs.WellFormed.{holdWellFormed};

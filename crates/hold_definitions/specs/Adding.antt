@@ -11,15 +11,8 @@ use Rattle.store_definitions.specs.Answers.{Answer, kept, waiting, done, is, sa
 use Rattle.store_definitions.specs.Adding.{addSpec}
 use Rattle.store_definitions.specs.Counting.{decremented}
 use Rattle.hold_definitions.specs.Memory.{PointHold, storeOf, indicesOf, labelsOf}
+use Rattle.hold_definitions.specs.Answers.{HoldOutcome, holdOutcome}
 use Rattle.hold_definitions.specs.WellFormed.{holdWellFormed}
-
--- an answer with the hold after the call
-pub record HoldOutcome (E : Type 0) : Type 0 where
-  pub answer : Answer
-  pub after : PointHold E
-
-abbrev pub holdOutcome : {E : Type 0} → Answer → PointHold E → HoldOutcome E
-holdOutcome a h = record { answer = a; after = h }
 
 -- a list written to a table; a longer table keeps its rest
 abbrev pub writtenTo : List ℕ → List ℕ → List ℕ

@@ -21,8 +21,9 @@ use Rattle.store_laws.specs.Cases.{by-cases}
 use Rattle.store_laws.specs.Sound.{Sound, sound, sound-make}
 use Rattle.store_laws.specs.AddingLaws.{add-keeps}
 use Rattle.hold_definitions.specs.Memory.{PointHold, storeOf, indicesOf, labelsOf}
+use Rattle.hold_definitions.specs.Answers.{HoldOutcome, holdOutcome}
 use Rattle.hold_definitions.specs.WellFormed.{holdWellFormed}
-use Rattle.hold_definitions.specs.Adding.{writtenTo, withStore, withList, oldestLabel, gaveUp, holding, heldAfter, holdAdded, holdOutcome, holdAddSpec}
+use Rattle.hold_definitions.specs.Adding.{writtenTo, withStore, withList, oldestLabel, gaveUp, holding, heldAfter, holdAdded, holdAddSpec}
 use Rattle.hold_definitions.specs.CountsAfter.{SameShape, SameCounts, Gained, Leaves, add-leaves}
 use Rattle.hold_definitions.specs.Sound.{Names, HoldSound, hold-sound, hold-sound-make}
 use Rattle.hold_definitions.specs.NamesLaws.{names-same, gained-names, oldest-decided, given-up-sound, given-up-shape, given-up-names}
@@ -163,7 +164,7 @@ module _ {E : Type 0} (eq : E → E → Bool) (zeroElement : E) (h : PointHold E
   pub hold-add-sound : HoldSound h → HoldSound (holdAddSpec eq zeroElement h point code .after)
   hold-add-sound s =
       let o = addSpec eq zeroElement (storeOf h) point code in
-      subst (λ (r : Rattle.hold_definitions.specs.Adding.HoldOutcome E). HoldSound (r .after)) (sym (hold-answers (hold-sound-make h s)))
+      subst (λ (r : HoldOutcome E). HoldSound (r .after)) (sym (hold-answers (hold-sound-make h s)))
       (after-sound h s (o .answer) (o .after) (add-keeps eq zeroElement (storeOf h) point code (s .well)) (add-leaves eq zeroElement (storeOf h) (sound (storeOf h) (s .well)) point code))
 
   -- an add, kept, waiting or refused, keeps a hold well-formed

@@ -6,7 +6,7 @@ use mathlib.Core.Path.{_≡_, refl}
 use lib.ListN.{replicate}
 use lib.Dec.{eqb}
 use Rattle.placement.specs.declared.Laid.the-variants.{Whole, Joined}
-use Rattle.terms.specs.Below.{one, everyBelow, sumBelow}
+use Rattle.terms.specs.Below.{one, everyBelow, sumBelow, countBelow}
 use Rattle.terms.specs.Rows.{allEqual}
 use Rattle.terms.specs.Search.{firstBelow}
 use Rattle.interval_store_manager.specs.Calls.{pushed, changed, taken, released}
@@ -20,9 +20,9 @@ use Rattle.placement.specs.Laying.{writtenCount, laidAs, laidElements, laidFree
 use Rattle.placement.specs.Overlap.{overlaps}
 use Rattle.placement.specs.Row.{rowToLay, movedWindow}
 use Rattle.labels.specs.Classes.{classOf, reasonClasses}
-use Rattle.labels.specs.Counted.{countedWell, indexTaken, raised, lowered}
+use Rattle.labels.specs.Counted.{managed, freeUncounted, countsFit, indexTaken, raised, lowered}
 use Rattle.labels.specs.Decisions.{none, inUse, codeDecided, roomDecided, incDecided, decDecided}
-use Rattle.labels.specs.Labels.{holdsClass, classSlot, slotTaken, labelTaken, labelRaised, labelLowered, slotSum, labelStands, differ, labelsWell}
+use Rattle.labels.specs.Labels.{holdsClass, classSlot, slotTaken, labelTaken, labelRaised, labelLowered, slotSum, differ, tablesLent as labelTablesLent, codesAllowed, slotsHoldClasses, classesDistinct, slotsSummed, labelsWell}
 use Rattle.labels.specs.Opening.{labelsOpened}
 use Rattle.store_definitions.specs.declared.Shape.{Shape}
 use Rattle.store_definitions.specs.Memory.{Memory, PointStore}
@@ -34,12 +34,13 @@ use Rattle.store_definitions.specs.Rows.{compactedRows, grownRows, short, roomM
 use Rattle.store_definitions.specs.Adding.{pointLength, waits, tableFull, addDecided, windowAfter, sequenced, rowOf, labelGiven, labelled, tableGrown, placed, joins, overflows, laidRows, laidHow, keptAfter, indexGiven, keeps, addSpec}
 use Rattle.store_definitions.specs.Bounds.{boundsHold, startAllowed, rotationAllowed, labelsLent, lentEnough}
 use Rattle.store_definitions.specs.Decisions.{formDecided, live, touchDecided}
-use Rattle.store_definitions.specs.WellFormed.{freeStartWell, placesDistinct, placesEnd, pointsWell, wellFormed}
+use Rattle.store_definitions.specs.WellFormed.{tableLengthWell, storeLengthWell, freeStartWell, emptyUncounted, placesDistinct, placesEnd, sequenceWell, wellFormed}
 use Rattle.hold_definitions.specs.Memory.{HoldMemory, PointHold, storeOf, indicesOf, labelsOf}
+use Rattle.hold_definitions.specs.Answers.{HoldOutcome, holdOutcome}
 use Rattle.hold_definitions.specs.Listed.{times, everyNamed}
 use Rattle.hold_definitions.specs.WellFormed.{widthAllowed, tablesLent, namesLivePoints, countedOnce, ownLabels, holdWellFormed}
-use Rattle.hold_definitions.specs.Opening.{HoldOpenOutcome, opens, refuses, holdOpenDecided, holdOpenSpec}
-use Rattle.hold_definitions.specs.Adding.{HoldOutcome, holdOutcome, withStore, gaveUp, holding, holdAddSpec}
+use Rattle.hold_definitions.specs.Opening.{holdOpenDecided, holdOpenSpec}
+use Rattle.hold_definitions.specs.Adding.{withStore, gaveUp, holding, holdAddSpec}
 use Rattle.hold_definitions.specs.Readings.{holdFormDecided, heldSpec, heldNumberSpec}
 
 data Call : Type 0 where
@@ -110,9 +111,18 @@ run : ℕ → List Call → PointHold ℕ → List Answer → Said
 run i [] h answers = said answers (indicesOf h) (labelsOf h) (copyOf (storeOf h) i)
 run i (c ∷ cs) h answers = let o = called c h in run i cs (o .after) (answers ++ o .answer ∷ [])
 
-started : ℕ → List Call → HoldOpenOutcome ℕ → Said
-started i cs (opens h) = run i cs h []
-started i cs (refuses n m) = said (refused n ∷ []) [] [] []
+-- a refused opening ends the case
+opening : Answer → ℕ → List Call → PointHold ℕ → Said
+opening (kept i l laid) n cs h = said [] [] [] []
+opening waiting n cs h = said [] [] [] []
+opening done n cs h = run n cs h []
+opening (is k) n cs h = said [] [] [] []
+opening (says b) n cs h = said [] [] [] []
+opening (refused k) n cs h = said (refused k ∷ []) [] [] []
+opening (refusedAfter k j) n cs h = said [] [] [] []
+
+started : ℕ → List Call → HoldOutcome ℕ → Said
+started n cs o = opening (o .answer) n cs (o .after)
 
 -- a shape, a width, the calls, and the index that is copied in the end
 ran : Shape → ℕ → List Call → ℕ → Said
@@ -210,7 +220,7 @@ stand (c ∷ cs) = agree (c .found) (c .expected) && stand cs
 
 -- every case gives what is said of it
 held-cases : stand cases ≡ true
-unfolding numbers same agree stand plain windowed rotating labelled-two cases shape rubbish inside-call called said run started ran everyBelow allEqual pushed changed taken released inside holders isFree inBounds noneShared capacityAllowed stackLent managerWellFormed wrappingSub wrappingAdd alignment zerosBefore holds liveBelow moved grownBlocks blocks blockMoves copiedDown settled blockDown blocksDown writtenByBlocks compacted turn turned copied grown writtenCount laidAs laidElements laidFree placeOf overlaps rowToLay movedWindow countedWell indexTaken lowered codeDecided roomDecided decDecided openDecided openedMemory opened decTest placeAfterDec decremented decSpec compactedRows grownRows short roomMade compactSpec copyOf pointLength waits tableFull addDecided windowAfter sequenced rowOf labelGiven labelled tableGrown placed joins overflows laidRows laidHow keptAfter indexGiven keeps addSpec boundsHold startAllowed rotationAllowed lentEnough formDecided live touchDecided freeStartWell placesDistinct placesEnd pointsWell wellFormed times everyNamed widthAllowed tablesLent namesLivePoints countedOnce ownLabels holdWellFormed holdOpenDecided holdOpenSpec gaveUp holding holdAddSpec sumBelow firstBelow raised inUse incDecided holdsClass classSlot slotTaken labelTaken labelRaised labelLowered slotSum labelStands differ labelsWell labelsOpened incTest incremented incSpec labelsLent reasonClasses
+unfolding numbers same agree stand plain windowed rotating labelled-two cases shape rubbish inside-call called said run opening started ran everyBelow allEqual pushed changed taken released inside holders isFree inBounds noneShared capacityAllowed stackLent managerWellFormed wrappingSub wrappingAdd alignment zerosBefore holds liveBelow moved grownBlocks blocks blockMoves copiedDown settled blockDown blocksDown writtenByBlocks compacted turn turned copied grown writtenCount laidAs laidElements laidFree placeOf overlaps rowToLay movedWindow managed freeUncounted countsFit indexTaken lowered codeDecided roomDecided decDecided openDecided openedMemory opened decTest placeAfterDec decremented decSpec compactedRows grownRows short roomMade compactSpec copyOf pointLength waits tableFull addDecided windowAfter sequenced rowOf labelGiven labelled tableGrown placed joins overflows laidRows laidHow keptAfter indexGiven keeps addSpec boundsHold startAllowed rotationAllowed lentEnough formDecided live touchDecided tableLengthWell storeLengthWell freeStartWell emptyUncounted placesDistinct placesEnd sequenceWell wellFormed times everyNamed widthAllowed tablesLent namesLivePoints countedOnce ownLabels holdWellFormed holdOpenDecided holdOpenSpec gaveUp holding holdAddSpec sumBelow countBelow firstBelow raised inUse incDecided holdsClass classSlot slotTaken labelTaken labelRaised labelLowered slotSum differ labelTablesLent codesAllowed slotsHoldClasses classesDistinct slotsSummed labelsWell labelsOpened incTest incremented incSpec labelsLent reasonClasses
 held-cases = refl
 
 -- the readings after some calls: the number held, and what a slice of n entries gets
@@ -218,9 +228,8 @@ readings : ℕ → List Call → PointHold ℕ → List ℕ
 readings n [] h = numbers (heldNumberSpec h) ++ numbers (heldSpec h (replicate n 77) .answer) ++ heldSpec h (replicate n 77) .out
 readings n (c ∷ cs) h = readings n cs (called c h .after)
 
-read : ℕ → List Call → HoldOpenOutcome ℕ → List ℕ
-read n cs (opens h) = readings n cs h
-read n cs (refuses k m) = []
+read : ℕ → List Call → HoldOutcome ℕ → List ℕ
+read n cs o = readings n cs (o .after)
 
 three : List Call
 three = add (10 ∷ []) 0 ∷ add (20 ∷ []) 0 ∷ add (30 ∷ []) 0 ∷ []
@@ -229,5 +238,5 @@ three = add (10 ∷ []) 0 ∷ add (20 ∷ []) 0 ∷ add (30 ∷ []) 0 ∷ []
 held-readings : (same (read 2 three (holdOpenSpec 0 plain 2 (rubbish plain 4))) (3 ∷ 2 ∷ 2 ∷ 1 ∷ 2 ∷ [])
     && (same (read 3 three (holdOpenSpec 0 plain 2 (rubbish plain 4))) (3 ∷ 2 ∷ 5 ∷ 3 ∷ 77 ∷ 77 ∷ 77 ∷ [])
     && same (read 0 [] (holdOpenSpec 0 plain 2 (rubbish plain 4))) (3 ∷ 0 ∷ 2 ∷ []))) ≡ true
-unfolding readings read three numbers same plain shape rubbish inside-call called said run started ran everyBelow allEqual pushed changed taken released inside holders isFree inBounds noneShared capacityAllowed stackLent managerWellFormed wrappingSub wrappingAdd alignment zerosBefore holds liveBelow moved grownBlocks blocks blockMoves copiedDown settled blockDown blocksDown writtenByBlocks compacted turn turned copied grown writtenCount laidAs laidElements laidFree placeOf overlaps rowToLay movedWindow countedWell indexTaken lowered codeDecided roomDecided decDecided openDecided openedMemory opened decTest placeAfterDec decremented decSpec compactedRows grownRows short roomMade compactSpec copyOf pointLength waits tableFull addDecided windowAfter sequenced rowOf labelGiven labelled tableGrown placed joins overflows laidRows laidHow keptAfter indexGiven keeps addSpec boundsHold startAllowed rotationAllowed lentEnough formDecided live touchDecided freeStartWell placesDistinct placesEnd pointsWell wellFormed times everyNamed widthAllowed tablesLent namesLivePoints countedOnce ownLabels holdWellFormed holdOpenDecided holdOpenSpec gaveUp holding holdAddSpec sumBelow firstBelow raised inUse incDecided holdsClass classSlot slotTaken labelTaken labelRaised labelLowered slotSum labelStands differ labelsWell labelsOpened incTest incremented incSpec labelsLent holdFormDecided heldSpec heldNumberSpec
+unfolding readings read three numbers same plain shape rubbish inside-call called said run opening started ran everyBelow allEqual pushed changed taken released inside holders isFree inBounds noneShared capacityAllowed stackLent managerWellFormed wrappingSub wrappingAdd alignment zerosBefore holds liveBelow moved grownBlocks blocks blockMoves copiedDown settled blockDown blocksDown writtenByBlocks compacted turn turned copied grown writtenCount laidAs laidElements laidFree placeOf overlaps rowToLay movedWindow managed freeUncounted countsFit indexTaken lowered codeDecided roomDecided decDecided openDecided openedMemory opened decTest placeAfterDec decremented decSpec compactedRows grownRows short roomMade compactSpec copyOf pointLength waits tableFull addDecided windowAfter sequenced rowOf labelGiven labelled tableGrown placed joins overflows laidRows laidHow keptAfter indexGiven keeps addSpec boundsHold startAllowed rotationAllowed lentEnough formDecided live touchDecided tableLengthWell storeLengthWell freeStartWell emptyUncounted placesDistinct placesEnd sequenceWell wellFormed times everyNamed widthAllowed tablesLent namesLivePoints countedOnce ownLabels holdWellFormed holdOpenDecided holdOpenSpec gaveUp holding holdAddSpec sumBelow countBelow firstBelow raised inUse incDecided holdsClass classSlot slotTaken labelTaken labelRaised labelLowered slotSum differ labelTablesLent codesAllowed slotsHoldClasses classesDistinct slotsSummed labelsWell labelsOpened incTest incremented incSpec labelsLent holdFormDecided heldSpec heldNumberSpec
 held-readings = refl

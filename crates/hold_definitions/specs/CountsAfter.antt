@@ -236,7 +236,7 @@ module _ {E : Type 0} (eq : E → E → Bool) (zeroElement : E) (p : PointStore 
         (λ e. table-gained (pointTable laid) (laid .memory .location) (w .points) (positive (u .«index_manager» .last_in_use) (eqb-false (u .«index_manager» .last_in_use) 0 e)) same-counts)
 
     -- the index is the one in the answer
-    index-same : nextIndex (pointTable (tableGrown laid)) ≡ indexGiven eq zeroElement p
+    index-same : nextIndex (pointTable (tableGrown laid)) ≡ indexGiven p
     unfolding tableGrown sequenced indexGiven
     index-same = go (eqb (u .«index_manager» .last_in_use) 0)
       where
@@ -244,17 +244,17 @@ module _ {E : Type 0} (eq : E → E → Bool) (zeroElement : E) (p : PointStore 
         go true = refl
         go false = refl
 
-    point-gained : PointGained (placed (tableGrown laid) place) (indexGiven eq zeroElement p) (l .labelTable .counts)
+    point-gained : PointGained (placed (tableGrown laid) place) (indexGiven p) (l .labelTable .counts)
     point-gained = rw (sym index-same) laid-gained
 
-  pub kept-gained : Kept p point code → Gained p (keptAfter eq zeroElement p point code) (indexGiven eq zeroElement p) (labelGiven p)
+  pub kept-gained : Kept p point code → Gained p (keptAfter eq room row p point code) (indexGiven p) (labelGiven p)
   unfolding keptAfter labelled labelGiven labelTaken indexTaken
   kept-gained k = go (u .«store_labels») refl
     where
       table : Counted
       table = labelHalf p .labelTable
 
-      go : (b : Bool) → u .«store_labels» ≡ b → Gained p (placed (tableGrown (withRows (laidRows eq u room row) (sequenced (cond b (withLabels (labelTaken classTable (u .capacity) (labelHalf p) code .after) p) p) point))) place) (indexGiven eq zeroElement p) (cond b (nextIndex table) none)
+      go : (b : Bool) → u .«store_labels» ≡ b → Gained p (placed (tableGrown (withRows (laidRows eq u room row) (sequenced (cond b (withLabels (labelTaken classTable (u .capacity) (labelHalf p) code .after) p) p) point))) place) (indexGiven p) (cond b (nextIndex table) none)
       go true on =
           let g = point-gained k (labelTaken classTable (u .capacity) (labelHalf p) code .after) in
           let well = w .labels on .label-table in
@@ -318,7 +318,7 @@ module _ {E : Type 0} (eq : E → E → Bool) (zeroElement : E) (p : PointStore 
           let r : Rows E = roomMade zeroElement (p .header) (rowsOf p) in
           let row : List E = rowOf p point in
           by-cases (λ o. Leaves p (o .answer) (o .after)) (overflows eq (p .header) r row) (outcome (refused 10) (withRows r p))
-          (outcome (kept (indexGiven eq zeroElement p) (labelGiven p) (laidHow eq (p .header) r row)) (keptAfter eq zeroElement p point code))
+          (outcome (kept (indexGiven p) (labelGiven p) (laidHow eq (p .header) r row)) (keptAfter eq r row p point code))
           (λ full. rows-same p r)
           (λ fits. kept-gained eq zeroElement p w point code (keeps-on p point code e))
       split wait e = sequenced-same p point

@@ -1,4 +1,5 @@
 pub mod Memory
+pub mod Answers
 pub mod Listed
 pub mod WellFormed
 pub mod Opening

@@ -6,8 +6,11 @@ use Rattle.store_definitions.specs.declared.Shape.{Shape}
 use Rattle.store_definitions.specs.Memory.{PointStore}
 use Rattle.store_definitions.specs.Bounds.{boundsHold, startAllowed}
 use Rattle.store_definitions.specs.Decisions.{andThen, refuseIf}
-use Rattle.store_definitions.specs.Opening.{openDecided, opened}
-use Rattle.hold_definitions.specs.Memory.{HoldMemory, PointHold}
+use Rattle.store_definitions.specs.Answers.{done, refused}
+use Rattle.store_definitions.specs.Opening.{openDecided, noRecord, opened}
+use Rattle.hold_definitions.specs.declared.Hold.{Hold}
+use Rattle.hold_definitions.specs.Memory.{HoldMemory, PointHold, pointHold}
+use Rattle.hold_definitions.specs.Answers.{HoldOutcome, holdOutcome}
 use Rattle.hold_definitions.specs.WellFormed.{widthAllowed, tablesLent}
 
 -- the shape check of every opening
@@ -30,15 +33,15 @@ freshHold width p m =
       memory = record { store = p .memory; heldIndices = m .heldIndices; heldLabels = m .heldLabels };
     }
 
--- what opening gives: a hold, or a refusal and the memory as it was
-pub data HoldOpenOutcome (E : Type 0) : Type 0 where
-  opens : PointHold E → HoldOpenOutcome E
-  refuses : ℕ → HoldMemory E → HoldOpenOutcome E
+-- the record of zeros, where there is no hold
+abbrev pub noHold : Hold
+noHold = record { store = noRecord; width = 0; held = 0 }
 
 module _ {E : Type 0} (zeroElement : E) where
-  abbrev pub holdOpenCarriedOut : Decided → Shape → ℕ → HoldMemory E → HoldOpenOutcome E
-  holdOpenCarriedOut go s width m = opens (freshHold width (opened zeroElement s (m .store)) m)
-  holdOpenCarriedOut (refuse n) s width m = refuses n m
+  -- a refused opening gives the record of zeros, and the memory as it was
+  abbrev pub holdOpenCarriedOut : Decided → Shape → ℕ → HoldMemory E → HoldOutcome E
+  holdOpenCarriedOut go s width m = holdOutcome done (freshHold width (opened zeroElement s (m .store)) m)
+  holdOpenCarriedOut (refuse n) s width m = holdOutcome (refused n) (pointHold noHold m)
 
-  unfoldable pub holdOpenSpec : Shape → ℕ → HoldMemory E → HoldOpenOutcome E
+  unfoldable pub holdOpenSpec : Shape → ℕ → HoldMemory E → HoldOutcome E
   holdOpenSpec s width m = holdOpenCarriedOut (holdOpenDecided s width m) s width m

@@ -13,6 +13,7 @@ use Rattle.interval_store_manager.specs.Calls.{Decided, go, refuse}
 use Rattle.labels.specs.Opening.{labelsOpened}
 use Rattle.store_definitions.specs.declared.Shape.{Shape}
 use Rattle.store_definitions.specs.Memory.{Memory, PointStore}
+use Rattle.store_definitions.specs.Answers.{done, refused}
 use Rattle.store_definitions.specs.Bounds.{lentEnough}
 use Rattle.store_definitions.specs.Parts.{labelHalf, withLabels, tableLength}
 use Rattle.store_definitions.specs.Decisions.{andThen, refuseIf}
@@ -21,10 +22,11 @@ use Rattle.store_laws.specs.Cases.{by-cases, asked}
 use Rattle.store_laws.specs.Sound.{sound-make}
 use Rattle.store_laws.specs.DecisionLaws.{both-go, not-refused}
 use Rattle.store_laws.specs.OpeningLaws.{filled-at, open-accepted, open-short, opened-sound}
-use Rattle.hold_definitions.specs.Memory.{HoldMemory, PointHold}
+use Rattle.hold_definitions.specs.Memory.{HoldMemory, PointHold, pointHold}
+use Rattle.hold_definitions.specs.Answers.{HoldOutcome, holdOutcome}
 use Rattle.hold_definitions.specs.Listed.{times}
 use Rattle.hold_definitions.specs.WellFormed.{widthAllowed, tablesLent, holdWellFormed}
-use Rattle.hold_definitions.specs.Opening.{shapeAllowed, holdOpenDecided, freshHold, HoldOpenOutcome, opens, refuses, holdOpenCarriedOut, holdOpenSpec}
+use Rattle.hold_definitions.specs.Opening.{shapeAllowed, holdOpenDecided, freshHold, noHold, holdOpenCarriedOut, holdOpenSpec}
 use Rattle.hold_definitions.specs.CountsAfter.{countNow, counted-below, counted-past}
 use Rattle.hold_definitions.specs.Sound.{width-sound, Own, HoldSound, hold-sound-make}
 
@@ -71,14 +73,24 @@ module _ {E : Type 0} (s : Shape) (width : ℕ) (m : HoldMemory E) where
         of-store = c .1;
       }
 
-  -- a refused opening leaves the memory as it was
-  pub hold-open-refused : (zeroElement : E) (n : ℕ) (after : HoldMemory E) → holdOpenSpec zeroElement s width m ≡ refuses n after → after ≡ m
-  unfolding holdOpenSpec
-  hold-open-refused zeroElement n after e = split (holdOpenDecided s width m) e
-    where
-      split : (d : Decided) → holdOpenCarriedOut zeroElement d s width m ≡ refuses n after → after ≡ m
-      split go q = absurd (let z : _≡_ {A = ℕ} 0 1 = cc in omega arith)
-      split (refuse k) q = cc
+  module _ (zeroElement : E) where
+    -- a refused opening gives no record and leaves the memory as it was
+    pub hold-open-refused : (n : ℕ) (h : PointHold E) → holdOpenSpec zeroElement s width m ≡ holdOutcome (refused n) h → h ≡ pointHold noHold m
+    unfolding holdOpenSpec
+    hold-open-refused n h e = split (holdOpenDecided s width m) e
+      where
+        split : (d : Decided) → holdOpenCarriedOut zeroElement d s width m ≡ holdOutcome (refused n) h → h ≡ pointHold noHold m
+        split go q = absurd (let a : done ≡ refused n = ap (λ (o : HoldOutcome E). o .answer) q in let z : _≡_ {A = ℕ} 0 1 = cc in omega arith)
+        split (refuse k) q = ap (λ (o : HoldOutcome E). o .after) (sym q)
+
+    -- an accepted one was decided so, and gives a fresh hold
+    pub hold-open-done : (h : PointHold E) → holdOpenSpec zeroElement s width m ≡ holdOutcome done h → (holdOpenDecided s width m ≡ go) × (h ≡ freshHold width (opened zeroElement s (m .store)) m)
+    unfolding holdOpenSpec
+    hold-open-done h e = split (holdOpenDecided s width m) e
+      where
+        split : (d : Decided) → holdOpenCarriedOut zeroElement d s width m ≡ holdOutcome done h → (d ≡ go) × (h ≡ freshHold width (opened zeroElement s (m .store)) m)
+        split go q = (refl, ap (λ (o : HoldOutcome E). o .after) (sym q))
+        split (refuse k) q = absurd (let a : refused k ≡ done = ap (λ (o : HoldOutcome E). o .answer) q in let z : _≡_ {A = ℕ} 0 1 = cc in omega arith)
 
 -- a fresh store has no counts
 module _ {E : Type 0} (zeroElement : E) (s : Shape) (m : Memory E) where
@@ -133,12 +145,7 @@ module _ {E : Type 0} (zeroElement : E) (s : Shape) (width : ℕ) (m : HoldMemor
       }
 
   -- every accepted opening is well-formed
-  pub hold-opening-well-formed : (h : PointHold E) → holdOpenSpec zeroElement s width m ≡ opens h → HoldSound h
-  unfolding holdOpenSpec
-  hold-opening-well-formed h e = split (holdOpenDecided s width m) refl e
-    where
-      split : (d : Decided) → holdOpenDecided s width m ≡ d → holdOpenCarriedOut zeroElement d s width m ≡ opens h → HoldSound h
-      split go f q =
-          let same : h ≡ freshHold width (opened zeroElement s (m .store)) m = cc in
-          subst HoldSound (sym same) (fresh-sound f)
-      split (refuse n) f q = absurd (let z : _≡_ {A = ℕ} 0 1 = cc in omega arith)
+  pub hold-opening-well-formed : (h : PointHold E) → holdOpenSpec zeroElement s width m ≡ holdOutcome done h → HoldSound h
+  hold-opening-well-formed h e =
+      let d = hold-open-done s width m zeroElement h e in
+      subst HoldSound (sym (d .1)) (fresh-sound (d .0))

@@ -5,12 +5,13 @@ use mathlib.Core.List.{List}
 use Rattle.store_definitions.specs.declared.Shape.{Shape}
 use Rattle.store_definitions.specs.Answers.{Answer, Output}
 use Rattle.hold_definitions.specs.Memory.{HoldMemory, PointHold}
-use Rattle.hold_definitions.specs.Opening.{HoldOpenOutcome, holdOpenSpec}
-use Rattle.hold_definitions.specs.Adding.{HoldOutcome, holdAddSpec}
+use Rattle.hold_definitions.specs.Answers.{HoldOutcome}
+use Rattle.hold_definitions.specs.Opening.{holdOpenSpec}
+use Rattle.hold_definitions.specs.Adding.{holdAddSpec}
 use Rattle.hold_definitions.specs.Readings.{heldSpec, heldNumberSpec}
 
 module _ {E : Type 0} (zeroElement : E) where
-  abbrev pub holdOpenCall : Shape → ℕ → HoldMemory E → HoldOpenOutcome E
+  abbrev pub holdOpenCall : Shape → ℕ → HoldMemory E → HoldOutcome E
   holdOpenCall = holdOpenSpec zeroElement
 
 module _ {E : Type 0} (eq : E → E → Bool) (zeroElement : E) where

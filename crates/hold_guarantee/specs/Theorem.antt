@@ -7,15 +7,14 @@ use mathlib.Core.Path.{_≡_, refl, sym, ap, subst, _∙_}
 use lib.ListN.{length, getD}
 use lib.Dec.{ltb}
 use borrow.Author.Tests.{eq-eqb, lt-ltb}
-use Rattle.interval_store_manager.specs.Calls.{Decided, go, refuse}
 use Rattle.placement.specs.Alike.{Alike}
 use Rattle.placement.specs.Copying.{turn, turned}
 use Rattle.store_definitions.specs.declared.Shape.{Shape}
 use Rattle.store_definitions.specs.Memory.{PointStore}
-use Rattle.store_definitions.specs.Answers.{Answer, done, is, refused, Outcome, output}
+use Rattle.store_definitions.specs.Answers.{Answer, done, is, refused, Outcome, outcome, output}
 use Rattle.store_definitions.specs.Decisions.{touchDecided}
 use Rattle.store_definitions.specs.Counting.{countSpec}
-use Rattle.store_definitions.specs.Opening.{opens as storeOpens, openSpec, opened}
+use Rattle.store_definitions.specs.Opening.{openSpec}
 use Rattle.store_definitions.specs.WellFormed.{wellFormed}
 use Rattle.store_laws.specs.Sound.{sound}
 use Rattle.store_laws.specs.AddingLaws.{add-keeps}
@@ -29,13 +28,13 @@ use Rattle.guarantee.specs.Theorem.{guaranteed}
 use Rattle.hold_definitions.specs.Memory.{HoldMemory, PointHold, storeOf, indicesOf}
 use Rattle.hold_definitions.specs.Listed.{times}
 use Rattle.hold_definitions.specs.WellFormed.{holdWellFormed}
-use Rattle.hold_definitions.specs.Opening.{opens, holdOpenDecided, freshHold, holdOpenCarriedOut, holdOpenSpec}
-use Rattle.hold_definitions.specs.Adding.{HoldOutcome, heldAfter, holdAdded}
+use Rattle.hold_definitions.specs.Answers.{HoldOutcome, holdOutcome}
+use Rattle.hold_definitions.specs.Adding.{heldAfter, holdAdded}
 use Rattle.hold_definitions.specs.Readings.{holdFormDecided, heldSpec, heldNumberSpec}
 use Rattle.hold_definitions.specs.CountsAfter.{Leaves, add-leaves, countNow, counted-live, counted-below, counted-inside}
 use Rattle.hold_definitions.specs.Sound.{HoldSound, hold-sound-make}
 use Rattle.hold_definitions.specs.AddingLaws.{hold-answers, held-length}
-use Rattle.hold_definitions.specs.OpeningLaws.{hold-open-accepted, fresh-sound}
+use Rattle.hold_definitions.specs.OpeningLaws.{hold-open-accepted, hold-open-done, fresh-sound}
 use Rattle.hold_guarantee.specs.Calls.{holdOpenCall, holdAddCall}
 use Rattle.hold_guarantee.specs.Run.{HoldAdd, holdAfter, holdAnswerTo}
 use Rattle.hold_guarantee.specs.History.{KeptAdd, indices, newest, acceptedPoints, keptAdds}
@@ -48,29 +47,26 @@ unfolding newest
 newest-none Prim.Native.Nat.zero = refl
 newest-none (Prim.Native.Nat.suc n) = refl
 
-module _ {E : Type 0} (eq : E → E → Bool) (zeroElement : E) (s : Shape) (width : ℕ) (start : PointHold E) (m : HoldMemory E) (accepted : holdOpenCall zeroElement s width m ≡ opens start) where
+module _ {E : Type 0} (eq : E → E → Bool) (zeroElement : E) (s : Shape) (width : ℕ) (start : PointHold E) (m : HoldMemory E) (accepted : holdOpenCall zeroElement s width m ≡ holdOutcome done start) where
   -- what an accepted opening of a hold is: one of its store, and an empty list of the width
   record Fresh : Type 0 where
     sound : HoldSound start
     wide : start .header .width ≡ width
     empty : start .header .held ≡ 0
-    of-store : openCall zeroElement s (m .store) ≡ storeOpens (storeOf start)
+    of-store : openCall zeroElement s (m .store) ≡ outcome done (storeOf start)
 
   fresh : Fresh
-  unfolding holdOpenSpec openSpec
-  fresh = split (holdOpenDecided s width m) refl accepted
-    where
-      split : (d : Decided) → holdOpenDecided s width m ≡ d → holdOpenCarriedOut zeroElement d s width m ≡ opens start → Fresh
-      split go e q =
-          let same : freshHold width (opened zeroElement s (m .store)) m ≡ start = cc in
-          let o = hold-open-accepted s width m e in
-          record {
-            sound = subst HoldSound same (fresh-sound zeroElement s width m e);
-            wide = ap (λ (h : PointHold E). h .header .width) (sym same);
-            empty = ap (λ (h : PointHold E). h .header .held) (sym same);
-            of-store = rw (o .of-store) (ap (λ (h : PointHold E). storeOpens (storeOf h)) same);
-          }
-      split (refuse n) e q = absurd (let z : _≡_ {A = ℕ} 0 1 = cc in omega arith)
+  unfolding openSpec
+  fresh =
+      let d = hold-open-done s width m zeroElement start accepted in
+      let same = sym (d .1) in
+      let o = hold-open-accepted s width m (d .0) in
+      record {
+        sound = subst HoldSound same (fresh-sound zeroElement s width m (d .0));
+        wide = ap (λ (h : PointHold E). h .header .width) (sym same);
+        empty = ap (λ (h : PointHold E). h .header .held) (sym same);
+        of-store = rw (o .of-store) (ap (λ (h : PointHold E). outcome done (storeOf h)) same);
+      }
 
   abbrev h : List (HoldAdd E) → PointHold E
   h adds = holdAfter eq zeroElement start adds

@@ -5,30 +5,27 @@ use mathlib.Core.Path.{_≡_, refl, sym, ap, _∙_}
 use lib.ListN.{length}
 use lib.Dec.{leb}
 use borrow.Author.Tests.{le-leb, lt-leb, lt-ltb, le-ltb}
-use Rattle.terms.specs.Refusals.{number}
 use Rattle.interval_store_manager.specs.Calls.{Decided, go, refuse}
 use Rattle.store_definitions.specs.declared.Store.{Store}
 use Rattle.store_definitions.specs.declared.Shape.{Shape}
 use Rattle.store_definitions.specs.declared.Done.{Done}
 use Rattle.store_definitions.specs.declared.Done.the-variants as atDone
-use Rattle.store_definitions.specs.Memory.{Memory, PointStore}
+use Rattle.store_definitions.specs.declared.DoneResult.{DoneResult}
+use Rattle.store_definitions.specs.Memory.{Memory, PointStore, pointStore}
+use Rattle.store_definitions.specs.Answers.{Answer, kept, waiting, done, is, says, refused, refusedAfter, doneMeans, Outcome, outcome}
 use Rattle.store_definitions.specs.Bounds.{boundsHold, startAllowed}
-use Rattle.store_definitions.specs.Decisions.{andThen, refuseIf}
-use Rattle.store_definitions.specs.Opening.{OpenOutcome, opens as storeOpens, refuses as storeRefuses, openDecided, openCarriedOut, openSpec}
-use Rattle.store_rows.specs.Openings.{openedAs}
-use Rattle.hold_definitions.specs.declared.Hold.{Hold}
+use Rattle.store_definitions.specs.Decisions.{andThen, refuseIf, carriedOut}
+use Rattle.store_definitions.specs.Opening.{openDecided, noRecord, opened, openSpec}
 use Rattle.hold_definitions.specs.declared.HoldDoneResult.{HoldDoneResult}
-use Rattle.hold_definitions.specs.Memory.{HoldMemory, PointHold, pointHold}
+use Rattle.hold_definitions.specs.Memory.{HoldMemory, pointHold}
+use Rattle.hold_definitions.specs.Answers.{HoldOutcome, holdOutcome}
 use Rattle.hold_definitions.specs.WellFormed.{widthAllowed, tablesLent}
-use Rattle.hold_definitions.specs.Opening.{shapeAllowed, HoldOpenOutcome, opens, refuses, holdOpenDecided, freshHold, holdOpenCarriedOut, holdOpenSpec}
+use Rattle.hold_definitions.specs.Opening.{shapeAllowed, holdOpenDecided, freshHold, noHold, holdOpenCarriedOut, holdOpenSpec}
 
--- what an opening's answer stands for, with the memory after it; the record of a refused one plays no part
-abbrev pub holdOpenedAs : Done → Hold → HoldMemory ℕ → HoldOpenOutcome ℕ
-holdOpenedAs atDone.Done h m = opens (pointHold h m)
-holdOpenedAs (atDone.Refused k) h m = refuses (number k) m
-
-abbrev pub holdOpenMeans : HoldDoneResult → HoldMemory ℕ → HoldOpenOutcome ℕ
-holdOpenMeans r m = holdOpenedAs (r .answer) (r .hold) m
+-- what the store's opening gives to the hold
+abbrev pub openedAs : Done → Store → ℕ → HoldDoneResult
+openedAs atDone.Done s width = record { hold = record { store = s; width = width; held = 0 }; answer = atDone.Done }
+openedAs (atDone.Refused k) s width = record { hold = noHold; answer = atDone.Refused k }
 
 -- ---- the decision before the store's
 
@@ -123,26 +120,40 @@ module _ (s : Shape) (width : ℕ) (m : HoldMemory ℕ) where
   unfolding holdOpenDecided openAsked shapeAsked widthAsked tablesAsked tablesLent
   decided-as = assoc (shapeAsked s) (widthAsked width (s .capacity)) (tablesAsked (s .capacity) (s .«store_labels») (length (m .heldIndices)) (length (m .heldLabels))) (openDecided s (m .store))
 
-  pub open-refused : (n : ℕ) → asked ≡ refuse n → refuses n m ≡ holdOpenSpec 0 s width m
+  pub open-refused : (n : ℕ) → asked ≡ refuse n → holdOutcome (refused n) (pointHold noHold m) ≡ holdOpenSpec 0 s width m
   unfolding holdOpenSpec
   open-refused n e = rw (decided-as, e)
 
-  -- a store's opening as that of the hold around it
-  around : OpenOutcome ℕ → HoldOpenOutcome ℕ
-  around (storeOpens p) = opens (freshHold width p m)
-  around (storeRefuses n k) = refuses n (record { store = k; heldIndices = m .heldIndices; heldLabels = m .heldLabels })
+  -- the two tables around a store's memory
+  abbrev tabled : Memory ℕ → HoldMemory ℕ
+  tabled k = record { store = k; heldIndices = m .heldIndices; heldLabels = m .heldLabels }
 
-  carried-around : (d : Decided) → around (openCarriedOut 0 d s (m .store)) ≡ holdOpenCarriedOut 0 d s width m
+  -- a store's opening as that of the hold around it
+  around : Answer → PointStore ℕ → HoldOutcome ℕ
+  around (kept i l laid) p = holdOutcome waiting (freshHold width p m)
+  around waiting p = holdOutcome waiting (freshHold width p m)
+  around done p = holdOutcome done (freshHold width p m)
+  around (is n) p = holdOutcome waiting (freshHold width p m)
+  around (says b) p = holdOutcome waiting (freshHold width p m)
+  around (refused n) p = holdOutcome (refused n) (pointHold noHold (tabled (p .memory)))
+  around (refusedAfter n k) p = holdOutcome waiting (freshHold width p m)
+
+  carried-around : (d : Decided) → (let o = carriedOut d (pointStore noRecord (m .store)) (outcome done (opened 0 s (m .store))) in around (o .answer) (o .after)) ≡ holdOpenCarriedOut 0 d s width m
   unfolding around
   carried-around go = refl
   carried-around (refuse n) = refl
 
-  means-around : (a : Done) (r : Store) (k : Memory ℕ) → holdOpenedAs a (record { store = r; width = width; held = 0 }) (record { store = k; heldIndices = m .heldIndices; heldLabels = m .heldLabels }) ≡ around (openedAs a r k)
+  means-around : (a : Done) (r : Store) (k : Memory ℕ) → holdOutcome (doneMeans (openedAs a r width .answer)) (pointHold (openedAs a r width .hold) (tabled k)) ≡ around (doneMeans a) (pointStore r k)
   unfolding around
   means-around atDone.Done r k = refl
   means-around (atDone.Refused n) r k = refl
 
-  pub open-done : asked ≡ go → (a : Done) (r : Store) (k : Memory ℕ) → openedAs a r k ≡ openSpec 0 s (m .store) → holdOpenedAs a (record { store = r; width = width; held = 0 }) (record { store = k; heldIndices = m .heldIndices; heldLabels = m .heldLabels }) ≡ holdOpenSpec 0 s width m
+  pub open-done : asked ≡ go → (d : DoneResult) (k : Memory ℕ) → outcome (doneMeans (d .answer)) (pointStore (d .store) k) ≡ openSpec 0 s (m .store) → (r : HoldDoneResult) → r ≡ openedAs (d .answer) (d .store) width
+      → holdOutcome (doneMeans (r .answer)) (pointHold (r .hold) (tabled k)) ≡ holdOpenSpec 0 s width m
   unfolding holdOpenSpec openSpec
-  open-done e a r k d =
-      means-around a r k ∙ ap around d ∙ carried-around (openDecided s (m .store)) ∙ (rw (decided-as, e))
+  open-done e d k o r q =
+      ap (λ (x : HoldDoneResult). holdOutcome (doneMeans (x .answer)) (pointHold (x .hold) (tabled k))) q
+      ∙ means-around (d .answer) (d .store) k
+      ∙ ap (λ (x : Outcome ℕ). around (x .answer) (x .after)) o
+      ∙ carried-around (openDecided s (m .store))
+      ∙ (rw (decided-as, e))

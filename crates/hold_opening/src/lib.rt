@@ -1,17 +1,20 @@
 // Opening a hold in lent memory: its store, its width, and an empty list.
 ghost use mathlib.Core.Path.{_≡_};
+ghost use Rattle.hold_definitions.specs.Answers.{holdOutcome};
 ghost use Rattle.hold_definitions.specs.Lent.{holdEntered, holdLeft};
-ghost use Rattle.hold_definitions.specs.Opening.{holdOpenSpec};
+ghost use Rattle.hold_definitions.specs.Memory.{pointHold};
+ghost use Rattle.hold_definitions.specs.Opening.{noHold, holdOpenSpec};
 ghost use Rattle.interval_store_manager.specs.Calls.{decisionMeans};
-ghost use Rattle.hold_opening.specs.Openings.{shapeAsked, widthAsked, tablesAsked, openAsked, holdOpenMeans};
+ghost use Rattle.store_definitions.specs.Answers.{doneMeans};
+ghost use Rattle.hold_opening.specs.Openings.{openedAs, shapeAsked, widthAsked, tablesAsked, openAsked};
 use hold_definitions::Hold;
 use hold_definitions::HoldDoneResult;
 use interval_store_manager::Decision;
-use interval_store_manager::IntervalStoreManager;
 use store_check::bounds_hold;
 use store_definitions::Done;
+use store_definitions::DoneResult;
 use store_definitions::Shape;
-use store_definitions::Store;
+use store_rows::no_record;
 use store_rows::open;
 use terms::FloatBits;
 use terms::Refusal;
@@ -78,28 +81,40 @@ fn open_decision(shape: Shape, width: usize, indices: usize, labels: usize) -> D
 }
 
 // What a refused opening gives in place of a record.
-fn no_hold() -> Hold {
-    let none = IntervalStoreManager {
-        capacity: 0,
-        last_in_use: 0,
-    };
+fn no_hold() -> Hold
+    ensures { λ r. ⌜ r ≡ noHold ⌝ }
+{
+    let none = no_record();
     Hold {
-        store: Store {
-            dimensions: 0,
-            shingle_size: 0,
-            capacity: 0,
-            internal_shingling: false,
-            internal_rotation: false,
-            store_labels: false,
-            store_length: 0,
-            start_free_region: 0,
-            next_sequence_index: 0,
-            index_manager: none,
-            label_manager: none,
-            attribute_manager: none,
-        },
+        store: none,
         width: 0,
         held: 0,
+    }
+}
+
+fn opened_hold(opened: DoneResult, width: usize) -> HoldDoneResult
+    ensures { λ r. ⌜ r ≡ openedAs (opened .answer) (opened .store) width ⌝ }
+{
+    let answer = opened.answer;
+    match answer {
+        Done::Refused(why) => {
+            let none = no_hold();
+            HoldDoneResult {
+                hold: none,
+                answer: Done::Refused(why),
+            }
+        }
+        Done::Done => {
+            let store = opened.store;
+            HoldDoneResult {
+                hold: Hold {
+                    store,
+                    width,
+                    held: 0,
+                },
+                answer: Done::Done,
+            }
+        }
     }
 }
 
@@ -125,7 +140,7 @@ pub fn open_hold(
     held_indices: &[u16],
     held_labels: &[u16],
 ) -> HoldDoneResult
-    ensures { λ r. ⌜ holdOpenMeans r (holdLeft store «last_known_shingle» «reference_count» location «index_starts» «index_ends» labels «label_attributes» «label_count» «label_starts» «label_ends» attributes «attribute_count» «attribute_starts» «attribute_ends» «held_indices» «held_labels») ≡ holdOpenSpec 0 shape width (holdEntered store «last_known_shingle» «reference_count» location «index_starts» «index_ends» labels «label_attributes» «label_count» «label_starts» «label_ends» attributes «attribute_count» «attribute_starts» «attribute_ends» «held_indices» «held_labels») ⌝ }
+    ensures { λ r. ⌜ holdOutcome (doneMeans (r .answer)) (pointHold (r .hold) (holdLeft store «last_known_shingle» «reference_count» location «index_starts» «index_ends» labels «label_attributes» «label_count» «label_starts» «label_ends» attributes «attribute_count» «attribute_starts» «attribute_ends» «held_indices» «held_labels»)) ≡ holdOpenSpec 0 shape width (holdEntered store «last_known_shingle» «reference_count» location «index_starts» «index_ends» labels «label_attributes» «label_count» «label_starts» «label_ends» attributes «attribute_count» «attribute_starts» «attribute_ends» «held_indices» «held_labels») ⌝ }
 {
     let d = open_decision(shape, width, held_indices.len(), held_labels.len());
     match d {
@@ -155,16 +170,7 @@ pub fn open_hold(
                 attribute_starts,
                 attribute_ends,
             );
-            let fresh = opened.store;
-            let answer = opened.answer;
-            HoldDoneResult {
-                hold: Hold {
-                    store: fresh,
-                    width,
-                    held: 0,
-                },
-                answer,
-            }
+            opened_hold(opened, width)
         }
     }
 }
