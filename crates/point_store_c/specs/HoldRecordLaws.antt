@@ -11,9 +11,9 @@ use lib.Seq.{sets, sets-eq, set-getD}
 use borrow.Author.Tests.{le-leb, lt-leb}
 use Rattle.store_definitions.specs.declared.Store.{Store}
 use Rattle.store_definitions.specs.Bounds.{boundsHold}
-use Rattle.store_definitions.specs.Opening.{noRecord}
 use Rattle.store_definitions.specs.WellFormed.{wellFormed}
 use Rattle.hold_definitions.specs.declared.Hold.{Hold}
+use Rattle.hold_definitions.specs.Opening.{noHold}
 use Rattle.hold_definitions.specs.Memory.{HoldMemory, pointHold}
 use Rattle.hold_definitions.specs.WellFormed.{holdWellFormed}
 use Rattle.point_store_c.specs.Records.{storeOut, legalRecord, storeIn, recorded}
@@ -38,7 +38,7 @@ hold-in-out words h l q = ap holdIn (hold-out-words words h l) ∙ written-hold 
 module _ (words : List ℕ) where
   -- what the code's test shows
   module _ (l : length words < 17) where
-    pub short-read : (record { store = noRecord; width = 0; held = 0 }) ≡ holdIn words
+    pub short-read : noHold ≡ holdIn words
     unfolding holdIn
     short-read = rw (lt-leb 17 (length words) l)
 

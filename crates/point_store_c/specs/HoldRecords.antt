@@ -5,8 +5,8 @@ use mathlib.Core.List.{List, [], _∷_, _++_}
 use lib.Dec.{leb}
 use lib.ListN.{length, getD}
 use lib.Seq.{sets}
-use Rattle.store_definitions.specs.Opening.{noRecord}
 use Rattle.hold_definitions.specs.declared.Hold.{Hold}
+use Rattle.hold_definitions.specs.Opening.{noHold}
 use Rattle.point_store_c.specs.Records.{storeWords, storeIn, recorded}
 
 -- the words of a hold, from word 0 on
@@ -22,7 +22,7 @@ unfoldable pub holdIn : List ℕ → Hold
 holdIn words =
     cond (leb 17 (length words))
     (record { store = storeIn words; width = getD words 15 0; held = getD words 16 0 })
-    (record { store = noRecord; width = 0; held = 0 })
+    noHold
 
 -- the record after a call that leaves the hold h; one too short is left as it was, and so are the words of a store that is none
 unfoldable pub holdRecorded : List ℕ → Hold → List ℕ

@@ -7,7 +7,7 @@ use crate::record::record_write;
 use crate::record::store_in;
 use crate::record::store_out;
 use hold_definitions::Hold;
-use store_rows::no_record;
+use hold_opening::no_hold;
 
 pub const HOLD_WORDS: usize = 17;
 
@@ -16,12 +16,7 @@ pub fn hold_in(words: &[u64]) -> Hold
     ensures { λ r. ⌜ r ≡ holdIn (now (words .entry)) ⌝ }
 {
     if words.len() < HOLD_WORDS {
-        let store = no_record();
-        return Hold {
-            store,
-            width: 0,
-            held: 0,
-        };
+        return no_hold();
     }
     let store = store_in(words);
     let width = words[15] as usize;
