@@ -14,13 +14,13 @@ use terms::FloatBits;
 use terms::Refusal;
 
 // The first entries of a list, as many as the output has.
-fn copy_list(list: &[u16], out: &mut [usize])
+fn copy_list(list: &[u16], out: &mut [u16])
     requires { ⌜ length (now out) ≤ length (now list) ⌝ }
     ensures { λ _. ⌜ now (out .exit) ≡ take (length (now (out .entry))) (now (list .entry)) ⌝ }
 {
     let mut k = 0;
     while k < out.len() {
-        out[k] = list[k] as usize;
+        out[k] = list[k];
         k += 1;
     }
 }
@@ -45,7 +45,7 @@ pub fn held(
     attribute_ends: &[u16],
     held_indices: &[u16],
     held_labels: &[u16],
-    out: &mut [usize],
+    out: &mut [u16],
 ) -> Done
     ensures { λ r. ⌜ output (doneMeans r) (now (out .exit)) ≡ heldSpec (pointHold h (holdEntered store «last_known_shingle» «reference_count» location «index_starts» «index_ends» labels «label_attributes» «label_count» «label_starts» «label_ends» attributes «attribute_count» «attribute_starts» «attribute_ends» «held_indices» «held_labels»)) (now (out .entry)) ⌝ }
 {

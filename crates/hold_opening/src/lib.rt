@@ -81,7 +81,7 @@ fn open_decision(shape: Shape, width: usize, indices: usize, labels: usize) -> D
 }
 
 // What a refused opening gives in place of a record.
-fn no_hold() -> Hold
+pub fn no_hold() -> Hold
     ensures { λ r. ⌜ r ≡ noHold ⌝ }
 {
     let none = no_record();

@@ -25,9 +25,6 @@ mul-out c = search needs
 shared-slice-read-out : tie.Need-shared-slice-read-out Inv-loop μ-loop
 shared-slice-read-out c = search needs
 
-cast-out : tie.Need-cast-out Inv-loop μ-loop
-cast-out c = omega (arith, c .shared-slice-known .given (c .before .before .loop .k))
-
 mul-out-2 : tie.Need-mul-out-2 Inv-loop μ-loop
 mul-out-2 c = search needs
 
@@ -58,4 +55,4 @@ returns c =
     copied-all (a .out .now) (a .list .now) (c .before .loop .out) (c .before .loop .k) (omega (arith, v .0, v .1 .0)) (v .1 .1)
 
 pub copy-list-spec : {M : Type 1} → statement M
-copy-list-spec = tie.close (tie.spec Inv-loop μ-loop loop-holds mul-out shared-slice-read-out cast-out mul-out-2 slice-write-out add-k loop-less loop-again same-length returns)
+copy-list-spec = tie.close (tie.spec Inv-loop μ-loop loop-holds mul-out shared-slice-read-out mul-out-2 slice-write-out add-k loop-less loop-again same-length returns)
