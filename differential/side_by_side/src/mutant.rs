@@ -76,7 +76,7 @@ pub const OF_THE_HOLD: [&str; 12] = [
     "harness-never-gives-up",
     "harness-leaves-the-rust-out-of-the-hold",
     "both-hold-in-another-order",
-    "both-leave-the-place-of-a-point-given-up",
+    "both-clear-the-floats-of-a-point-given-up",
 ];
 
 fn sown() -> Option<&'static str> {

@@ -14,7 +14,7 @@ use crate::store::model_rows::PAST_A_FIFTH;
 use crate::store::rust_side::{self, Outcome};
 use crate::store::sides::refused_in_rust;
 use library::hold::LentHold;
-use library::store::Opening;
+use library::store::{Lent, Opening};
 use reference::Store;
 use std::collections::VecDeque;
 
@@ -277,9 +277,20 @@ fn sow_in_both(call: &HoldCall, got: &HoldReturned, h: &mut LentHold) {
             h.held_labels.swap(0, 1);
         }
     }
-    if mutant::is("both-leave-the-place-of-a-point-given-up") {
-        for i in (0..word(&h.store, TABLE_LENGTH)).filter(|i| h.store.reference_count[*i] == 0) {
-            h.store.location[i] = 0;
-        }
+    if mutant::is("both-clear-the-floats-of-a-point-given-up") {
+        clear_dead_floats(&mut h.store);
+    }
+}
+
+/// Floats before the free start that belong to no live row.
+fn clear_dead_floats(m: &mut Lent) {
+    let s = shape(m);
+    let mut is_live = vec![false; word(m, FREE_START)];
+    for i in live_indices(m) {
+        let start = m.location[i] as usize * s.base;
+        is_live[start..start + s.dimensions].fill(true);
+    }
+    for (float, _) in m.store.iter_mut().zip(is_live).filter(|(_, live)| !live) {
+        *float = 0;
     }
 }
