@@ -13,10 +13,11 @@ mod sides;
 mod well_formed;
 
 use crate::coverage::Coverage;
-use crate::store::share;
 use crate::store::well_formed::CLAUSES as OF_STORE;
+use crate::store::{run_parts, share, Part};
 
-const RANDOM_CALLS: u64 = 3_000_000;
+/// Of each of the two parts.
+const RANDOM_CALLS: u64 = 1_500_000;
 const MADE_UP_CALLS: u64 = 1_000_000;
 const SPOILED_CALLS: u64 = 1_000_000;
 const OPENINGS: u64 = 300_000;
@@ -26,7 +27,7 @@ fn counts(title: &'static str, owed: &[&[&'static str]]) -> Coverage {
     Coverage::counting(title, &kinds::all(), &owed.concat())
 }
 
-fn random_lists() -> Result<Coverage, String> {
+fn random_lists(seed: u64) -> Result<Coverage, String> {
     // 1 comes of other memory, and so does 8: from a fresh hold no label is live that is not held.
     let adds: Vec<&str> = kinds::OF_ADDS
         .into_iter()
@@ -45,8 +46,8 @@ fn random_lists() -> Result<Coverage, String> {
         &crate::store::REFUSED,
     ];
     let mut coverage = counts("hold, random lists of adds beside the Rust's add and dec", &owed);
-    lists::corner_lists(31, &mut coverage)?;
-    lists::random_lists(32, share(RANDOM_CALLS), &mut coverage)?;
+    lists::corner_lists(seed + 100, &mut coverage)?;
+    lists::random_lists(seed, share(RANDOM_CALLS), &mut coverage)?;
     Ok(coverage)
 }
 
@@ -103,13 +104,25 @@ fn mixed() -> Result<Coverage, String> {
     Ok(coverage)
 }
 
+/// The random lists come last, in two parts under one title.
+const PARTS: [Part; 7] = [
+    mixed,
+    openings,
+    broken,
+    made_up,
+    spoiled,
+    || random_lists(31),
+    || random_lists(32),
+];
+
 /// Runs everything, printing what each part covered.
 pub fn run() -> Result<(), String> {
-    let mut calls = 0;
-    for part in [mixed, openings, broken, made_up, spoiled, random_lists] {
-        let coverage = part()?;
-        calls += coverage.count("calls");
-        coverage.close()?;
+    let mut parts = run_parts(&PARTS)?;
+    let more = parts.pop().expect("the second part of the random lists");
+    parts.last_mut().expect("the first one").merge(more);
+    let calls: u64 = parts.iter().map(|part| part.count("calls")).sum();
+    for part in parts {
+        part.close()?;
     }
     println!("hold: {calls} calls in all");
     Ok(())

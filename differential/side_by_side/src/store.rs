@@ -167,7 +167,7 @@ fn rubbish() -> Result<Coverage, String> {
     Ok(coverage)
 }
 
-type Part = fn() -> Result<Coverage, String>;
+pub type Part = fn() -> Result<Coverage, String>;
 
 /// The random lists come last, in four parts under one title.
 const PARTS: [Part; 14] = [
@@ -188,16 +188,16 @@ const PARTS: [Part; 14] = [
 ];
 
 /// Runs the parts on two threads; what each covered, in their order. After an error no other part is begun.
-fn run_parts() -> Result<Vec<Coverage>, String> {
+pub fn run_parts(parts: &[Part]) -> Result<Vec<Coverage>, String> {
     let next = AtomicUsize::new(0);
     let done: Mutex<Vec<(usize, Coverage)>> = Mutex::new(Vec::new());
     let work = || -> Result<(), String> {
         loop {
             let k = next.fetch_add(1, Ordering::SeqCst);
-            let Some(part) = PARTS.get(k) else {
+            let Some(part) = parts.get(k) else {
                 return Ok(());
             };
-            let coverage = part().inspect_err(|_| next.store(PARTS.len(), Ordering::SeqCst))?;
+            let coverage = part().inspect_err(|_| next.store(parts.len(), Ordering::SeqCst))?;
             done.lock().expect("no other thread panics with it").push((k, coverage));
         }
     };
@@ -213,7 +213,7 @@ fn run_parts() -> Result<Vec<Coverage>, String> {
 
 /// Runs everything, printing what each part covered.
 pub fn run() -> Result<(), String> {
-    let mut parts = run_parts()?;
+    let mut parts = run_parts(&PARTS)?;
     let rest = parts.split_off(PARTS.len() - 3);
     let random = parts.last_mut().expect("the first part of the random lists");
     rest.into_iter().for_each(|more| random.merge(more));
