@@ -76,7 +76,7 @@ static void sliding(struct ps_hold *h) {
     printf("wrong length: %" PRIu64, ps_store_hold_add(h, point, 1, 0, &added));
     printf(", code 24: %" PRIu64, ps_store_hold_add(h, point, 2, 24, &added));
     printf(", answer %" PRIu64 "\n", added.kept);
-    printf("a list too long or too short: %" PRIu64 " %" PRIu64 "\n", ps_store_hold_held(h, held, 1), ps_store_hold_held(h, held, 3));
+    printf("an output too short, too long: %" PRIu64 " %" PRIu64 "\n", ps_store_hold_held(h, held, 1), ps_store_hold_held(h, held, 3));
     printf("live: %" PRIu64, ps_store_live_number(&h->store, &number));
     printf(" %" PRIu64 "\n", number);
 }
