@@ -19,14 +19,12 @@ use Rattle.placement.specs.Growth.{grown}
 use Rattle.placement.specs.Laying.{writtenCount, laidAs, laidElements, laidFree, placeOf}
 use Rattle.placement.specs.Overlap.{overlaps}
 use Rattle.placement.specs.Row.{rowToLay, movedWindow}
-use Rattle.labels.specs.Classes.{classOf, reasonClasses}
+use Rattle.labels.specs.Classes.{reasonClasses}
 use Rattle.labels.specs.Counted.{managed, freeUncounted, countsFit, indexTaken, raised, lowered}
 use Rattle.labels.specs.Decisions.{none, inUse, codeDecided, roomDecided, incDecided, decDecided}
 use Rattle.labels.specs.Labels.{holdsClass, classSlot, slotTaken, labelTaken, labelRaised, labelLowered, slotSum, differ, tablesLent as labelTablesLent, codesAllowed, slotsHoldClasses, classesDistinct, slotsSummed, labelsWell}
 use Rattle.labels.specs.Opening.{labelsOpened}
 use Rattle.store_definitions.specs.declared.Shape.{Shape}
-use Rattle.store_definitions.specs.Memory.{Memory, PointStore}
-use Rattle.store_definitions.specs.Parts.{tableLength}
 use Rattle.store_definitions.specs.Answers.{Answer, kept, waiting, done, is, says, refused, refusedAfter, Outcome}
 use Rattle.store_definitions.specs.Opening.{openDecided, openedMemory, opened}
 use Rattle.store_definitions.specs.Counting.{incTest, incremented, incSpec, decTest, placeAfterDec, decremented, decSpec}
