@@ -41,14 +41,14 @@ use Rattle.hold_definitions.specs.Opening.{holdOpenDecided, holdOpenSpec
 use Rattle.hold_definitions.specs.Adding.{withStore, gaveUp, holding, holdAddSpec}
 use Rattle.hold_definitions.specs.Readings.{holdFormDecided, heldSpec, heldNumberSpec}
 
-data Call : Type 0 where
+pub data Call : Type 0 where
   -- a hold add: a point and a label code
   add : List ℕ → ℕ → Call
   -- calls on the store inside
   inc : ℕ → ℕ → Call
   compact : Call
 
-shape : (dims shingle capacity : ℕ) → (internal rotation labels : Bool) → Shape
+unfoldable pub shape : (dims shingle capacity : ℕ) → (internal rotation labels : Bool) → Shape
 shape dims shingle capacity internal rotation labels =
     record {
       dimensions = dims;
@@ -61,7 +61,7 @@ shape dims shingle capacity internal rotation labels =
     }
 
 -- tables of n entries; with labels off those of the labels are empty
-rubbish : Shape → ℕ → HoldMemory ℕ
+unfoldable pub rubbish : Shape → ℕ → HoldMemory ℕ
 rubbish s n =
     let table : List ℕ = replicate n 77 in
     let labels : List ℕ = cond (s .«store_labels») table [] in
@@ -87,10 +87,10 @@ rubbish s n =
       heldLabels = labels;
     }
 
-inside-call : Outcome ℕ → PointHold ℕ → HoldOutcome ℕ
+unfoldable pub inside-call : Outcome ℕ → PointHold ℕ → HoldOutcome ℕ
 inside-call o h = holdOutcome (o .answer) (withStore (o .after) h)
 
-called : Call → PointHold ℕ → HoldOutcome ℕ
+unfoldable pub called : Call → PointHold ℕ → HoldOutcome ℕ
 called (add point code) h = holdAddSpec eqb 0 h point code
 called (inc i l) h = inside-call (incSpec (storeOf h) i l) h
 called compact h = inside-call (compactSpec 0 (storeOf h)) h
