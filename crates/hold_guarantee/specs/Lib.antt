@@ -5,3 +5,5 @@ pub mod Guarantee
 pub mod ListLaws
 pub mod StoreRun
 pub mod Theorem
+pub mod Ran
+pub mod RanLaws
