@@ -188,7 +188,7 @@ module _ {E : Type 0} (eq : E → E → Bool) (zeroElement : E) (p : PointStore 
 
     -- how many indices growth brings at least
     abbrev least : ℕ
-    least = 0
+    least = 1
 
     abbrev longer : ℕ
     longer = grown (tableLength u) least (u .capacity)
