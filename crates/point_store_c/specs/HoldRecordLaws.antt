@@ -62,10 +62,10 @@ two-more words words′ h e = rw e
 
 -- a call that leaves the hold leaves the record
 pub hold-record-kept : (words : List ℕ) → holdRecorded words (holdIn words) ≡ words
+unfolding holdRecorded holdIn tailOut
 hold-record-kept words = go (leb 17 (length words)) refl
   where
     go : (b : Bool) → leb 17 (length words) ≡ b → holdRecorded words (holdIn words) ≡ words
-    unfolding holdRecorded holdIn tailOut
     go true e = rw (e, record-kept words, set-getD words 15 0, set-getD words 16 0)
     go false e = rw e
 
@@ -74,9 +74,13 @@ pub short-ill-formed : (words : List ℕ) (m : HoldMemory ℕ) → length words 
 unfolding holdIn holdWellFormed wellFormed boundsHold
 short-ill-formed words m l = rw (lt-leb 17 (length words) l) refl
 
+long-ill-formed : (words : List ℕ) (m : HoldMemory ℕ) → 17 ≤ length words → legalRecord words ≡ false → holdWellFormed (pointHold (holdIn words) m) ≡ false
+unfolding holdIn holdWellFormed
+long-ill-formed words m l e = rw (le-leb 17 (length words) l, illegal-ill-formed words (m .store) e) refl
+
 pub illegal-hold-ill-formed : (words : List ℕ) (m : HoldMemory ℕ) → legalRecord words ≡ false → holdWellFormed (pointHold (holdIn words) m) ≡ false
-illegal-hold-ill-formed words m e = elim (decLt (length words) 17) [ yes l ↦ short-ill-formed words m l | no g ↦ long (omega arith) ]
-  where
-    long : 17 ≤ length words → holdWellFormed (pointHold (holdIn words) m) ≡ false
-    unfolding holdIn holdWellFormed
-    long l = rw (le-leb 17 (length words) l, illegal-ill-formed words (m .store) e) refl
+illegal-hold-ill-formed words m e =
+    elim (decLt (length words) 17) [
+      | yes l ↦ short-ill-formed words m l
+      | no g ↦ long-ill-formed words m (omega arith) e
+    ]
