@@ -738,7 +738,7 @@ static inline uint64_t ps_store_hold_open(struct ps_hold *h, const struct ps_sha
 /* Adds a point as ps_store_add() does, with its answer and its refusals; 1 is for an ill-formed hold too. Where the point is kept and
  * more than `width` are held, the oldest is given up after it: one dec of its index and label index. Waiting and refused adds give up
  * nothing. With rotation a hold can get 10 for good: compaction moves a held row only where its turn stays, and no refused add makes
- * room; a row that joins the last one is taken all the same. Refused with 1, 3, 12, 4, 8, 9, 10. */
+ * room; a row that joins the last one is taken all the same. 9 never comes. Refused with 1, 3, 12, 4, 8, 10. */
 static inline uint64_t ps_store_hold_add(
     struct ps_hold *h, const float *point, size_t point_len, size_t label, struct ps_added *added) {
     struct ps_hold_record r;

@@ -1,9 +1,9 @@
 -- The dec of the oldest point, on the tables alone: it does the same whatever the elements are.
 use Prim.Native.Nat.{ℕ, _≤_}
-use mathlib.Core.Bool.{Bool, true}
+use mathlib.Core.Bool.{true}
 use mathlib.Core.Path.{_≡_, refl, ap, _∙_}
 use lib.ListN.{getD}
-use Rattle.interval_store_manager.specs.Calls.{Decided, go}
+use Rattle.interval_store_manager.specs.Calls.{go}
 use Rattle.store_definitions.specs.declared.Store.{Store}
 use Rattle.store_definitions.specs.Memory.{Memory, PointStore, pointStore}
 use Rattle.store_definitions.specs.Counting.{decTest, decremented}
@@ -14,7 +14,7 @@ use Rattle.store_counts.specs.Elements.{refilled, dec-refilled}
 use Rattle.hold_definitions.specs.declared.Hold.{Hold}
 use Rattle.hold_definitions.specs.Memory.{HoldMemory, pointHold}
 use Rattle.hold.specs.declared.keep.Given.{Given}
-use Rattle.hold.specs.Keeping.{oldestIn, oldestLabelIn, PointReady}
+use Rattle.hold.specs.Keeping.{oldestLabelIn, PointReady}
 
 module _ {E : Type 0} (s : Store) (m : Memory E) where
   abbrev bare : PointStore (Unit {0})

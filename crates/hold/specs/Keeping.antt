@@ -1,19 +1,16 @@
 -- What a hold does with its store's answer, and what that may rely on.
 use Prim.Native.Nat.{ℕ, zero, suc, _+_, _-_, _≤_, _<_}
 use native.Mathlib.Omega.{arith}
-use native.Mathlib.Numerals.{add-one}
 use mathlib.Core.Bool.{Bool, true, false, cond}
 use mathlib.Core.List.{List, [], _∷_, _++_}
 use mathlib.Core.Path.{_≡_, refl, sym, ap, ap₂, subst, _∙_}
-use lib.ListN.{length, getD, take, drop, length-append, length-drop}
-use lib.Seq.{length-take-le, getD-take}
-use lib.Dec.{ltb}
+use lib.ListN.{length, getD, take, drop, length-drop}
+use lib.Seq.{length-take-le}
 use borrow.Author.Tests.{eq-eqb, lt-ltb, le-ltb}
 use Rattle.interval_store_manager.specs.Calls.{go}
 use Rattle.labels.specs.Decisions.{none}
 use Rattle.labels.specs.Labels.{labelLowered}
 use Rattle.labels.specs.Counted.{lowered}
-use Rattle.store_definitions.specs.declared.Store.{Store}
 use Rattle.store_definitions.specs.Memory.{PointStore}
 use Rattle.store_definitions.specs.Answers.{Answer, kept, waiting, done, is, says, refused, refusedAfter, Outcome, outcome}
 use Rattle.store_definitions.specs.Adding.{addSpec}
@@ -24,13 +21,13 @@ use Rattle.store_laws.specs.Cases.{by-cases}
 use Rattle.store_laws.specs.Sound.{sound}
 use Rattle.store_laws.specs.AddingLaws.{add-keeps}
 use Rattle.hold_definitions.specs.Memory.{PointHold, pointHold, storeOf, indicesOf, labelsOf}
-use Rattle.hold_definitions.specs.Answers.{HoldOutcome, holdOutcome}
+use Rattle.hold_definitions.specs.Answers.{holdOutcome}
 use Rattle.hold_definitions.specs.WellFormed.{holdWellFormed}
-use Rattle.hold_definitions.specs.Adding.{writtenTo, withStore, withList, oldestLabel, gaveUp, holding, heldAfter, holdAdded}
+use Rattle.hold_definitions.specs.Adding.{writtenTo, withStore, oldestLabel, gaveUp, holding, heldAfter, holdAdded}
 use Rattle.hold_definitions.specs.CountsAfter.{Gained, Leaves, add-leaves, counted-inside, countNow}
 use Rattle.hold_definitions.specs.Sound.{HoldSound, hold-sound}
 use Rattle.hold_definitions.specs.NamesLaws.{gained-names, oldest-decided}
-use Rattle.hold_definitions.specs.AddingLaws.{held-length, labels-length, length-more}
+use Rattle.hold_definitions.specs.AddingLaws.{length-more}
 use Rattle.hold.specs.declared.keep.Given.{Given}
 
 abbrev pub givenIn : Answer → Given

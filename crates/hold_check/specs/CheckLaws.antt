@@ -1,5 +1,5 @@
 -- The list pass, with the number of live points, is what well-formedness asks of a hold's list.
-use Prim.Native.Nat.{ℕ, _+_, _≤_, _<_}
+use Prim.Native.Nat.{ℕ, _≤_, _<_}
 use native.Mathlib.Decide.{decLt, ℕ-discrete}
 use native.Mathlib.Omega.{arith}
 use mathlib.Core.Bool.{Bool, true, false, cond, not, _&&_}
@@ -8,8 +8,8 @@ use mathlib.Core.Path.{_≡_, refl, sym, ap, _∙_}
 use lib.ListN.{length, getD, take}
 use lib.Seq.{length-take-le}
 use lib.Dec.{leb, ltb, eqb}
-use borrow.Author.Tests.{eq-eqb, ne-eqb, eqb-true, lt-ltb, ltb-true, leb-true}
-use Rattle.terms.specs.Below.{one, one-le, both, and-make, sumBelow, countBelow, sum-same, sum-add, sum-zeros, sum-tight}
+use borrow.Author.Tests.{eq-eqb, ne-eqb, eqb-true, ltb-true, leb-true}
+use Rattle.terms.specs.Below.{one, both, and-make, sumBelow, countBelow, sum-same, sum-add, sum-zeros, sum-tight}
 use Rattle.terms.specs.Sums.{sum-changed}
 use Rattle.store_definitions.specs.Memory.{PointStore}
 use Rattle.store_definitions.specs.Parts.{tableLength}
@@ -21,7 +21,7 @@ use Rattle.hold_definitions.specs.Memory.{PointHold, storeOf, indicesOf, labels
 use Rattle.hold_definitions.specs.Listed.{times}
 use Rattle.hold_definitions.specs.WellFormed.{widthAllowed, tablesLent, namesLivePoints, countedOnce, ownLabels, holdWellFormed}
 use Rattle.hold_definitions.specs.CountsAfter.{countNow, counted-below, counted-past, counted-inside}
-use Rattle.hold_definitions.specs.Sound.{Own, names-counts, names-once, names-make, counted-make, own-sound, own-make}
+use Rattle.hold_definitions.specs.Sound.{names-counts, names-once, names-make, counted-make, own-sound, own-make}
 use Rattle.hold_check.specs.ListedOnce.{listedOnce, same-test, Once, listed-sound, listed-make}
 
 -- the entries of a list below n, counted index by index

@@ -8,9 +8,9 @@ use mathlib.Core.Path.{_≡_, refl, sym, ap, _∙_}
 use lib.ListN.{length, getD, set}
 use lib.Seq.{getD-set-same, getD-set-other}
 use lib.Dec.{ltb, eqb}
-use borrow.Author.Tests.{eq-eqb, ne-eqb, eqb-true, lt-ltb, le-ltb, ltb-true}
-use Rattle.terms.specs.Below.{one, both, and-make, fails}
-use Rattle.hold_definitions.specs.Listed.{times, everyNamed, times-append, times-one, times-self, named-at, named-make}
+use borrow.Author.Tests.{eq-eqb, eqb-true, lt-ltb, ltb-true}
+use Rattle.terms.specs.Below.{both, and-make, fails}
+use Rattle.hold_definitions.specs.Listed.{times, everyNamed, times-self, times-more, times-other, named-at, named-make}
 
 unfoldable pub listedOnce : ℕ → List ℕ → List ℕ → Bool
 listedOnce limit counts xs =
@@ -49,12 +49,6 @@ module _ (limit : ℕ) (counts : List ℕ) where
 
 -- ---- one entry more
 
-times-more : (j i : ℕ) (xs : List ℕ) → times j (xs ++ i ∷ []) ≡ times j xs + one (eqb i j)
-times-more j i xs = times-append j xs (i ∷ []) ∙ ap (λ (n : ℕ). times j xs + n) (times-one j i)
-
-other : (i j : ℕ) → (j ≡ i → ⊥) → one (eqb i j) ≡ 0
-other i j d = rw (ne-eqb i j (λ e. d (sym e)))
-
 -- what is asked of an entry, with the marks of the entries before it, and the marks with it
 unfoldable pub entryListed : ℕ → List ℕ → List Bool → ℕ → Bool
 entryListed limit counts marks x = ltb x limit && (eqb (getD counts x 0) 1 && not (getD marks x false))
@@ -83,7 +77,7 @@ module _ (limit : ℕ) (counts : List ℕ) (xs : List ℕ) (marks : List Bool) (
             rw (e, lt-ltb x limit below, getD-set-same marks x true false (omega arith), times-more x x xs, times-self x)
             (sym (lt-ltb 0 (times x xs + 1) (omega arith)))
         | no d ↦
-            rw (times-more i x xs, other x i d)
+            rw (times-more i x xs, times-other x i d)
             (kept (ltb x limit) d ∙ m i h ∙ ap (λ (n : ℕ). ltb 0 n) (let z : times i xs ≡ times i xs + 0 = omega arith in z))
       ]
     where
@@ -135,7 +129,7 @@ module _ (limit : ℕ) (counts : List ℕ) (xs : List ℕ) (marks : List Bool) (
               once = rw (q, times-more x x xs, times-self x) (omega (arith, new));
             }
         | no q ↦
-            let z = other x i q in
+            let z = times-other x i q in
             let o = listed-sound limit counts xs (a .0) i (omega (arith, times-more i x xs, z, h)) in
             record { below = o .below; counted = o .counted; once = omega (arith, o .once, times-more i x xs, z) }
       ]))

@@ -1,6 +1,5 @@
 -- A hold stays well-formed whatever is added to it, and giving up its oldest point is never refused.
 use Prim.Native.Nat.{ℕ, _+_, _-_, _≤_, _<_}
-use native.Mathlib.Decide.{decLt}
 use native.Mathlib.Omega.{arith}
 use mathlib.Core.Bool.{Bool, true, false, cond}
 use mathlib.Core.List.{List, [], _∷_, _++_}
@@ -8,17 +7,15 @@ use mathlib.Core.Path.{_≡_, refl, sym, ap, subst, _∙_}
 use lib.ListN.{length, getD, take, drop, length-append, length-drop}
 use lib.Seq.{length-take-le, take-at}
 use lib.Dec.{ltb}
-use borrow.Author.Tests.{ltb-true, ltb-false, lt-ltb, le-ltb}
-use Rattle.terms.specs.Below.{fails}
-use Rattle.interval_store_manager.specs.Calls.{go}
+use borrow.Author.Tests.{ltb-false}
 use Rattle.store_definitions.specs.Memory.{PointStore}
 use Rattle.store_definitions.specs.Answers.{Answer, kept, waiting, done, is, says, refused, refusedAfter, outcome}
 use Rattle.store_definitions.specs.Decisions.{formDecided}
 use Rattle.store_definitions.specs.Adding.{addSpec}
-use Rattle.store_definitions.specs.Counting.{decTest, decSpec}
+use Rattle.store_definitions.specs.Counting.{decSpec}
 use Rattle.store_definitions.specs.WellFormed.{wellFormed}
 use Rattle.store_laws.specs.Cases.{by-cases}
-use Rattle.store_laws.specs.Sound.{Sound, sound, sound-make}
+use Rattle.store_laws.specs.Sound.{sound, sound-make}
 use Rattle.store_laws.specs.AddingLaws.{add-keeps}
 use Rattle.hold_definitions.specs.Memory.{PointHold, storeOf, indicesOf, labelsOf}
 use Rattle.hold_definitions.specs.Answers.{HoldOutcome, holdOutcome}
@@ -40,9 +37,6 @@ length-less : (xs : List ℕ) → length (drop 1 xs) ≡ length xs - 1
 length-less xs = length-drop 1 xs
 
 module _ {E : Type 0} where
-  pub same-shape : (p : PointStore E) → SameShape p p
-  same-shape p = record { capacity-same = refl; flag-same = refl }
-
   module _ (h : PointHold E) (s : HoldSound h) where
     pub held-length : length (indicesOf h) ≡ h .header .held
     held-length = length-take-le (h .header .held) (h .memory .heldIndices) (omega (arith, s .held-most, s .width-most, s .indices-lent))

@@ -19,14 +19,12 @@ use Rattle.placement.specs.Growth.{grown}
 use Rattle.placement.specs.Laying.{writtenCount, laidAs, laidElements, laidFree, placeOf}
 use Rattle.placement.specs.Overlap.{overlaps}
 use Rattle.placement.specs.Row.{rowToLay, movedWindow}
-use Rattle.labels.specs.Classes.{classOf, reasonClasses}
+use Rattle.labels.specs.Classes.{reasonClasses}
 use Rattle.labels.specs.Counted.{managed, freeUncounted, countsFit, indexTaken, raised, lowered}
 use Rattle.labels.specs.Decisions.{none, inUse, codeDecided, roomDecided, incDecided, decDecided}
 use Rattle.labels.specs.Labels.{holdsClass, classSlot, slotTaken, labelTaken, labelRaised, labelLowered, slotSum, differ, tablesLent as labelTablesLent, codesAllowed, slotsHoldClasses, classesDistinct, slotsSummed, labelsWell}
 use Rattle.labels.specs.Opening.{labelsOpened}
 use Rattle.store_definitions.specs.declared.Shape.{Shape}
-use Rattle.store_definitions.specs.Memory.{Memory, PointStore}
-use Rattle.store_definitions.specs.Parts.{tableLength}
 use Rattle.store_definitions.specs.Answers.{Answer, kept, waiting, done, is, says, refused, refusedAfter, Outcome}
 use Rattle.store_definitions.specs.Opening.{openDecided, openedMemory, opened}
 use Rattle.store_definitions.specs.Counting.{incTest, incremented, incSpec, decTest, placeAfterDec, decremented, decSpec}
@@ -43,14 +41,14 @@ use Rattle.hold_definitions.specs.Opening.{holdOpenDecided, holdOpenSpec
 use Rattle.hold_definitions.specs.Adding.{withStore, gaveUp, holding, holdAddSpec}
 use Rattle.hold_definitions.specs.Readings.{holdFormDecided, heldSpec, heldNumberSpec}
 
-data Call : Type 0 where
+pub data Call : Type 0 where
   -- a hold add: a point and a label code
   add : List ℕ → ℕ → Call
   -- calls on the store inside
   inc : ℕ → ℕ → Call
   compact : Call
 
-shape : (dims shingle capacity : ℕ) → (internal rotation labels : Bool) → Shape
+unfoldable pub shape : (dims shingle capacity : ℕ) → (internal rotation labels : Bool) → Shape
 shape dims shingle capacity internal rotation labels =
     record {
       dimensions = dims;
@@ -63,7 +61,7 @@ shape dims shingle capacity internal rotation labels =
     }
 
 -- tables of n entries; with labels off those of the labels are empty
-rubbish : Shape → ℕ → HoldMemory ℕ
+unfoldable pub rubbish : Shape → ℕ → HoldMemory ℕ
 rubbish s n =
     let table : List ℕ = replicate n 77 in
     let labels : List ℕ = cond (s .«store_labels») table [] in
@@ -89,10 +87,10 @@ rubbish s n =
       heldLabels = labels;
     }
 
-inside-call : Outcome ℕ → PointHold ℕ → HoldOutcome ℕ
+unfoldable pub inside-call : Outcome ℕ → PointHold ℕ → HoldOutcome ℕ
 inside-call o h = holdOutcome (o .answer) (withStore (o .after) h)
 
-called : Call → PointHold ℕ → HoldOutcome ℕ
+unfoldable pub called : Call → PointHold ℕ → HoldOutcome ℕ
 called (add point code) h = holdAddSpec eqb 0 h point code
 called (inc i l) h = inside-call (incSpec (storeOf h) i l) h
 called compact h = inside-call (compactSpec 0 (storeOf h)) h

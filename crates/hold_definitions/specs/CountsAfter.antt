@@ -2,7 +2,7 @@
 use Prim.Native.Nat.{ℕ, _-_, _≤_, _<_}
 use native.Mathlib.Decide.{decLt, ℕ-discrete}
 use native.Mathlib.Omega.{arith}
-use mathlib.Core.Bool.{Bool, true, false, cond}
+use mathlib.Core.Bool.{Bool, true, false, cond, _&&_}
 use mathlib.Core.List.{List}
 use mathlib.Core.Path.{_≡_, refl, sym, ap, _∙_}
 use lib.ListN.{length, getD, set}
@@ -10,7 +10,6 @@ use lib.Seq.{getD-set-same, getD-set-other}
 use lib.Dec.{ltb, eqb}
 use borrow.Author.Tests.{eq-eqb, ne-eqb, eqb-true, eqb-false, lt-ltb, le-ltb}
 use Rattle.terms.specs.Below.{positive}
-use Rattle.terms.specs.Entries.{stored}
 use Rattle.placement.specs.Growth.{grown, grown-within}
 use Rattle.placement.specs.Laying.{placeOf}
 use Rattle.labels.specs.Counted.{Counted, counted, nextIndex, indexTaken, lowered}
@@ -45,7 +44,7 @@ module _ {E : Type 0} where
   unfolding live countNow
   counted-live p i = go (ltb i (tableLength (p .header)))
     where
-      go : (b : Bool) → mathlib.Core.Bool._&&_ b (ltb 0 (getD (p .memory .referenceCount) i 0)) ≡ ltb 0 (cond b (getD (p .memory .referenceCount) i 0) 0)
+      go : (b : Bool) → (b && ltb 0 (getD (p .memory .referenceCount) i 0)) ≡ ltb 0 (cond b (getD (p .memory .referenceCount) i 0) 0)
       go true = refl
       go false = refl
 
@@ -189,7 +188,7 @@ module _ {E : Type 0} (eq : E → E → Bool) (zeroElement : E) (p : PointStore 
 
     -- how many indices growth brings at least
     abbrev least : ℕ
-    least = 0
+    least = 1
 
     abbrev longer : ℕ
     longer = grown (tableLength u) least (u .capacity)

@@ -13,3 +13,4 @@ pub mod NamesLaws
 pub mod AddingLaws
 pub mod OpeningLaws
 pub mod Cases
+pub mod EachClause

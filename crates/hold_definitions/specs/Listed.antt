@@ -1,14 +1,14 @@
 -- Lists of indices: how often one is named, and tests of every one that is.
-use Prim.Native.Nat.{ℕ, _+_, _≤_, _<_}
+use Prim.Native.Nat.{ℕ, _+_, _<_}
 use native.Mathlib.Decide.{ℕ-discrete}
 use native.Mathlib.Omega.{arith}
-use mathlib.Core.Bool.{Bool, true, false, _&&_}
+use mathlib.Core.Bool.{Bool, true, _&&_}
 use mathlib.Core.List.{List, [], _∷_, _++_}
-use mathlib.Core.Path.{_≡_, refl}
-use lib.ListN.{drop, getD}
+use mathlib.Core.Path.{_≡_, refl, sym, ap, _∙_}
+use lib.ListN.{length, getD, drop}
 use lib.Dec.{eqb}
-use borrow.Author.Tests.{eq-eqb, ne-eqb, eqb-true}
-use Rattle.terms.specs.Below.{one, one-true, both, and-make}
+use borrow.Author.Tests.{eq-eqb, ne-eqb}
+use Rattle.terms.specs.Below.{one, both, and-make}
 
 -- how often a list names an index
 unfoldable pub times : ℕ → List ℕ → ℕ
@@ -31,13 +31,23 @@ unfolding times
 times-one i x = omega arith
 
 -- the first one, and what is left without it
-pub times-first : (i d : ℕ) (xs : List ℕ) → 0 < lib.ListN.length xs → times i xs ≡ one (eqb (getD xs 0 d) i) + times i (drop 1 xs)
+pub times-first : (i d : ℕ) (xs : List ℕ) → 0 < length xs → times i xs ≡ one (eqb (getD xs 0 d) i) + times i (drop 1 xs)
 unfolding times
 times-first i d [] h = absurd (omega arith)
 times-first i d (x ∷ xs) h = refl
 
 pub times-self : (x : ℕ) → one (eqb x x) ≡ 1
 times-self x = rw (eq-eqb x x refl)
+
+-- one index more at the end
+pub times-more : (j i : ℕ) (xs : List ℕ) → times j (xs ++ i ∷ []) ≡ times j xs + one (eqb i j)
+times-more j i xs = times-append j xs (i ∷ []) ∙ ap (λ (n : ℕ). times j xs + n) (times-one j i)
+
+pub times-other : (i j : ℕ) → (j ≡ i → ⊥) → one (eqb i j) ≡ 0
+times-other i j d = rw (ne-eqb i j (λ e. d (sym e)))
+
+pub times-itself : (i j : ℕ) → j ≡ i → one (eqb i j) ≡ 1
+times-itself i j e = rw (eq-eqb i j (sym e))
 
 pub named-at : (p : ℕ → Bool) (xs : List ℕ) → everyNamed p xs ≡ true → (i : ℕ) → 0 < times i xs → p i ≡ true
 unfolding times everyNamed

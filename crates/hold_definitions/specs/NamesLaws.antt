@@ -4,34 +4,24 @@ use native.Mathlib.Decide.{decLt, ℕ-discrete}
 use native.Mathlib.Omega.{arith}
 use mathlib.Core.Bool.{Bool, true, false, cond}
 use mathlib.Core.List.{List, [], _∷_, _++_}
-use mathlib.Core.Path.{_≡_, refl, sym, ap, _∙_}
-use lib.ListN.{length, getD, drop, set}
+use mathlib.Core.Path.{_≡_, refl, sym, _∙_}
+use lib.ListN.{length, getD, drop}
 use lib.Seq.{getD-set-other}
-use lib.Dec.{ltb, eqb}
+use lib.Dec.{eqb}
 use borrow.Author.Tests.{eq-eqb, ne-eqb, lt-ltb}
 use Rattle.terms.specs.Below.{one}
 use Rattle.interval_store_manager.specs.Calls.{go, refuse}
 use Rattle.labels.specs.Decisions.{none, inUse, decDecided}
 use Rattle.store_definitions.specs.Memory.{PointStore}
 use Rattle.store_definitions.specs.Parts.{tableLength}
-use Rattle.store_definitions.specs.Decisions.{live, touchDecided}
+use Rattle.store_definitions.specs.Decisions.{touchDecided}
 use Rattle.store_definitions.specs.Counting.{decTest, decremented}
 use Rattle.store_laws.specs.Sound.{Sound}
 use Rattle.store_laws.specs.CountingLaws.{dec-accepted}
-use Rattle.hold_definitions.specs.Listed.{times, times-append, times-one, times-first, times-self}
+use Rattle.hold_definitions.specs.Listed.{times, times-first, times-self, times-more, times-other, times-itself}
 use Rattle.hold_definitions.specs.Adding.{oldestLabel, gaveUp}
 use Rattle.hold_definitions.specs.CountsAfter.{countNow, counted-live, counted-below, counted-inside, labelCountNow, SameShape, SameCounts, Gained, dec-shape, dec-counts, dec-label-counts}
 use Rattle.hold_definitions.specs.Sound.{Own, Names}
-
--- one index more at the end
-times-more : (j i : ℕ) (xs : List ℕ) → times j (xs ++ i ∷ []) ≡ times j xs + one (eqb i j)
-times-more j i xs = times-append j xs (i ∷ []) ∙ ap (λ (n : ℕ). times j xs + n) (times-one j i)
-
-other : (i j : ℕ) → (j ≡ i → ⊥) → one (eqb i j) ≡ 0
-other i j d = rw (ne-eqb i j (λ e. d (sym e)))
-
-itself : (i j : ℕ) → j ≡ i → one (eqb i j) ≡ 1
-itself i j e = rw (eq-eqb i j (sym e))
 
 module _ {E : Type 0} where
   -- what leaves the counts leaves the names
@@ -51,14 +41,14 @@ module _ {E : Type 0} where
         g .counts j
         ∙ elim (ℕ-discrete j i) [
           | yes e ↦ rw (eq-eqb j i e, e, times-more i i xs, times-self i) (omega (arith, n .counts i, g .was-free))
-          | no d ↦ rw (ne-eqb j i d, times-more j i xs, other i j d) (omega (arith, n .counts j))
+          | no d ↦ rw (ne-eqb j i d, times-more j i xs, times-other i j d) (omega (arith, n .counts j))
         ]
 
     new-once : (j : ℕ) → times j (xs ++ i ∷ []) ≤ 1
     new-once j =
         elim (ℕ-discrete j i) [
           | yes e ↦ rw (e, times-more i i xs, times-self i) (omega (arith, n .counts i, g .was-free))
-          | no d ↦ rw (times-more j i xs, other i j d) (omega (arith, n .once j))
+          | no d ↦ rw (times-more j i xs, times-other i j d) (omega (arith, n .once j))
         ]
 
     module _ (on : p .header .«store_labels» ≡ true) where
@@ -81,7 +71,7 @@ module _ {E : Type 0} where
                 }
             | no d ↦
                 let t = times-more k l ls in
-                let z = other l k d in
+                let z = times-other l k d in
                 let o = n .own on k (omega (arith, t, z, h)) in
                 record {
                   below = rw (g .shape .capacity-same) (o .below);
@@ -143,14 +133,14 @@ module _ {E : Type 0} where
       own-after k h =
           let t = first-label k in
           let o = n .own on k (omega (arith, t, h)) in
-          let d : k ≡ own-label → ⊥ = λ e. omega (arith, t, h, o .once, itself own-label k e) in
+          let d : k ≡ own-label → ⊥ = λ e. omega (arith, t, h, o .once, times-itself own-label k e) in
           record {
             below = rw (dec-shape q w oldest label inside used .capacity-same) (o .below);
             counted =
                 dec-label-counts q w oldest label inside used on k
                 ∙ getD-set-other (q .memory .labelCount) label k (labelCountNow q label - 1) 0 (λ e. d (e ∙ label-is))
                 ∙ o .counted;
-            once = omega (arith, t, o .once, other own-label k d);
+            once = omega (arith, t, o .once, times-other own-label k d);
           }
 
     label-decided : decDecided (q .header .«store_labels») (q .header .capacity) (q .memory .labelCount) label ≡ go
@@ -178,8 +168,8 @@ module _ {E : Type 0} where
     counts-after j =
         dec-counts q w oldest label inside used j
         ∙ elim (ℕ-discrete j oldest) [
-          | yes e ↦ rw (eq-eqb j oldest e) (omega (arith, counted-one, n .once j, first j, itself oldest j e))
-          | no d ↦ rw (ne-eqb j oldest d) (omega (arith, n .counts j, first j, other oldest j d))
+          | yes e ↦ rw (eq-eqb j oldest e) (omega (arith, counted-one, n .once j, first j, times-itself oldest j e))
+          | no d ↦ rw (ne-eqb j oldest d) (omega (arith, n .counts j, first j, times-other oldest j d))
         ]
 
     pub given-up-names : Names (gaveUp xs ls q) (drop 1 xs) (drop 1 ls)

@@ -1,21 +1,22 @@
 -- Opening a hold: what is refused and with which number, and that an accepted opening is well-formed.
-use Prim.Native.Nat.{ℕ, _≤_, _<_}
+use Prim.Native.Nat.{ℕ}
 use native.Mathlib.Decide.{decLt}
 use native.Mathlib.Omega.{arith}
 use mathlib.Core.Bool.{Bool, true, false, cond, not}
-use mathlib.Core.List.{List, []}
+use mathlib.Core.List.{List}
 use mathlib.Core.Path.{_≡_, refl, sym, ap, subst, _∙_}
-use lib.ListN.{length, getD, take}
-use lib.Dec.{leb, ltb}
+use lib.ListN.{length, take}
+use lib.Dec.{leb}
 use borrow.Author.Tests.{not-false, leb-true}
 use Rattle.terms.specs.Below.{both}
 use Rattle.interval_store_manager.specs.Calls.{Decided, go, refuse}
+use Rattle.labels.specs.Labels.{Labels}
 use Rattle.labels.specs.Opening.{labelsOpened}
 use Rattle.store_definitions.specs.declared.Shape.{Shape}
 use Rattle.store_definitions.specs.Memory.{Memory, PointStore}
 use Rattle.store_definitions.specs.Answers.{done, refused}
 use Rattle.store_definitions.specs.Bounds.{lentEnough}
-use Rattle.store_definitions.specs.Parts.{labelHalf, withLabels, tableLength}
+use Rattle.store_definitions.specs.Parts.{labelHalf, withLabels}
 use Rattle.store_definitions.specs.Decisions.{andThen, refuseIf}
 use Rattle.store_definitions.specs.Opening.{openDecided, freshRecord, openedMemory, opened}
 use Rattle.store_laws.specs.Cases.{by-cases, asked}
@@ -25,10 +26,10 @@ use Rattle.store_laws.specs.OpeningLaws.{filled-at, open-accepted, open-short, 
 use Rattle.hold_definitions.specs.Memory.{HoldMemory, PointHold, pointHold}
 use Rattle.hold_definitions.specs.Answers.{HoldOutcome, holdOutcome}
 use Rattle.hold_definitions.specs.Listed.{times}
-use Rattle.hold_definitions.specs.WellFormed.{widthAllowed, tablesLent, holdWellFormed}
+use Rattle.hold_definitions.specs.WellFormed.{widthAllowed, tablesLent}
 use Rattle.hold_definitions.specs.Opening.{shapeAllowed, holdOpenDecided, freshHold, noHold, holdOpenCarriedOut, holdOpenSpec}
 use Rattle.hold_definitions.specs.CountsAfter.{countNow, counted-below, counted-past}
-use Rattle.hold_definitions.specs.Sound.{width-sound, Own, HoldSound, hold-sound-make}
+use Rattle.hold_definitions.specs.Sound.{width-sound, HoldSound}
 
 module _ {E : Type 0} (s : Shape) (width : ℕ) (m : HoldMemory E) where
   -- 2 exactly outside the bounds; in them 15 exactly for a width that is not allowed; then 1 exactly over memory too short
@@ -102,7 +103,7 @@ module _ {E : Type 0} (zeroElement : E) (s : Shape) (m : Memory E) where
   bare-store : PointStore E
   bare-store = record { header = freshRecord s; memory = openedMemory zeroElement s m }
 
-  with-any : (l : Rattle.labels.specs.Labels.Labels) (i : ℕ) → countNow (withLabels l bare-store) i ≡ 0
+  with-any : (l : Labels) (i : ℕ) → countNow (withLabels l bare-store) i ≡ 0
   unfolding openedMemory bare-store
   with-any l i =
       elim (decLt i (s .«initial_capacity»)) [

@@ -3,7 +3,7 @@ use Prim.Native.Nat.{ℕ, _≤_}
 use native.Mathlib.Omega.{arith}
 use mathlib.Core.Bool.{true, false}
 use mathlib.Core.List.{List}
-use mathlib.Core.Path.{_≡_, sym, ap}
+use mathlib.Core.Path.{_≡_, ap}
 use lib.ListN.{length, take}
 use borrow.Author.Tests.{eq-eqb, ne-eqb}
 use Rattle.store_definitions.specs.Answers.{done, is, refused, output}

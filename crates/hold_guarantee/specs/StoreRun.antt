@@ -1,11 +1,10 @@
 -- A hold's run as a run of the store inside: each hold add is an add and, where a point is given up, a dec.
-use Prim.Native.Nat.{ℕ, _+_, _≤_, _<_}
-use native.Mathlib.Decide.{ℕ-discrete}
+use Prim.Native.Nat.{ℕ, _≤_, _<_}
 use native.Mathlib.Omega.{arith}
 use mathlib.Core.Bool.{Bool, true, false, cond}
 use mathlib.Core.List.{List, [], _∷_, _++_}
 use mathlib.Core.Path.{_≡_, refl, sym, ap, subst, _∙_}
-use lib.ListN.{length, getD, take, drop}
+use lib.ListN.{length, getD, drop}
 use lib.Seq.{take-at}
 use lib.Dec.{ltb, eqb}
 use borrow.Author.Tests.{eq-eqb, ne-eqb}
@@ -19,15 +18,14 @@ use Rattle.store_definitions.specs.Counting.{decSpec}
 use Rattle.store_definitions.specs.WellFormed.{wellFormed}
 use Rattle.guarantee.specs.Calls.{addCall}
 use Rattle.guarantee.specs.Run.{Call, add, dec, after}
-use Rattle.guarantee.specs.History.{Given, Life, alive, History, history, recorded, changedBy, pointsWith, rowOfAdd, decedLife}
+use Rattle.guarantee.specs.History.{Given, alive, History, history, recorded, changedBy, pointsWith, rowOfAdd, decedLife}
 use Rattle.hold_definitions.specs.Memory.{PointHold, storeOf, indicesOf, labelsOf}
-use Rattle.hold_definitions.specs.Listed.{times, times-first, times-self}
-use Rattle.hold_definitions.specs.Adding.{writtenTo, withStore, withList, oldestLabel, gaveUp, holding, heldAfter}
+use Rattle.hold_definitions.specs.Listed.{times, times-first}
+use Rattle.hold_definitions.specs.Adding.{withStore, withList, oldestLabel, gaveUp, holding, heldAfter}
 use Rattle.hold_definitions.specs.CountsAfter.{SameCounts, Gained, Leaves}
 use Rattle.hold_definitions.specs.Sound.{HoldSound}
 use Rattle.hold_definitions.specs.AddingLaws.{length-more, gives-up, after-sound}
 use Rattle.hold_definitions.specs.NamesLaws.{gained-names}
-use Rattle.hold_guarantee.specs.Calls.{holdAddCall}
 use Rattle.hold_guarantee.specs.Run.{HoldAdd, holdAfter, holdAnswerTo}
 use Rattle.hold_guarantee.specs.History.{KeptAdd, keptWith, indices, newest}
 use Rattle.hold_guarantee.specs.Guarantee.{Each}

@@ -1,12 +1,11 @@
 -- The hold's guarantee holds after every list of hold adds on every fresh hold.
 use Prim.Native.Nat.{ℕ, _/_, _≤_, _<_}
 use native.Mathlib.Omega.{arith}
-use mathlib.Core.Bool.{Bool, true, false}
+use mathlib.Core.Bool.{Bool}
 use mathlib.Core.List.{List, [], _∷_}
 use mathlib.Core.Path.{_≡_, refl, sym, ap, subst, _∙_}
-use lib.ListN.{length, getD}
-use lib.Dec.{ltb}
-use borrow.Author.Tests.{eq-eqb, lt-ltb}
+use lib.ListN.{length}
+use borrow.Author.Tests.{eq-eqb}
 use Rattle.placement.specs.Alike.{Alike}
 use Rattle.placement.specs.Copying.{turn, turned}
 use Rattle.store_definitions.specs.declared.Shape.{Shape}
@@ -15,19 +14,17 @@ use Rattle.store_definitions.specs.Answers.{Answer, done, is, refused, Outcome,
 use Rattle.store_definitions.specs.Decisions.{touchDecided}
 use Rattle.store_definitions.specs.Counting.{countSpec}
 use Rattle.store_definitions.specs.Opening.{openSpec}
-use Rattle.store_definitions.specs.WellFormed.{wellFormed}
 use Rattle.store_laws.specs.Sound.{sound}
 use Rattle.store_laws.specs.AddingLaws.{add-keeps}
 use Rattle.guarantee.specs.Calls.{openCall, addCall, copyCall, countCall}
 use Rattle.guarantee.specs.Run.{Call, add, after}
-use Rattle.guarantee.specs.History.{History, history, recorded}
+use Rattle.guarantee.specs.History.{history, recorded}
 use Rattle.guarantee.specs.Guarantee.{Guarantee}
 use Rattle.guarantee.specs.EachCallKeeps.{formed}
 use Rattle.guarantee.specs.CopyLaws.{count-answer}
 use Rattle.guarantee.specs.Theorem.{guaranteed}
-use Rattle.hold_definitions.specs.Memory.{HoldMemory, PointHold, storeOf, indicesOf}
+use Rattle.hold_definitions.specs.Memory.{HoldMemory, PointHold, storeOf}
 use Rattle.hold_definitions.specs.Listed.{times}
-use Rattle.hold_definitions.specs.WellFormed.{holdWellFormed}
 use Rattle.hold_definitions.specs.Answers.{HoldOutcome, holdOutcome}
 use Rattle.hold_definitions.specs.Adding.{heldAfter, holdAdded}
 use Rattle.hold_definitions.specs.Readings.{holdFormDecided, heldSpec, heldNumberSpec}

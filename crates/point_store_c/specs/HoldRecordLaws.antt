@@ -2,12 +2,12 @@
 use Prim.Native.Nat.{ℕ, _≤_, _<_}
 use native.Mathlib.Omega.{arith}
 use native.Mathlib.Decide.{decLt}
-use mathlib.Core.Bool.{Bool, true, false, cond}
-use mathlib.Core.List.{List, [], _∷_, _++_}
-use mathlib.Core.Path.{_≡_, refl, sym, ap, _∙_}
+use mathlib.Core.Bool.{Bool, true, false}
+use mathlib.Core.List.{List, _∷_, _++_}
+use mathlib.Core.Path.{_≡_, refl, ap, _∙_}
 use lib.Dec.{leb}
-use lib.ListN.{length, getD, set, drop}
-use lib.Seq.{sets, sets-eq, set-getD}
+use lib.ListN.{length, getD, drop}
+use lib.Seq.{sets-eq, set-getD}
 use borrow.Author.Tests.{le-leb, lt-leb}
 use Rattle.store_definitions.specs.declared.Store.{Store}
 use Rattle.store_definitions.specs.Bounds.{boundsHold}
@@ -18,7 +18,7 @@ use Rattle.hold_definitions.specs.Memory.{HoldMemory, pointHold}
 use Rattle.hold_definitions.specs.WellFormed.{holdWellFormed}
 use Rattle.point_store_c.specs.Records.{storeOut, legalRecord, storeIn, recorded}
 use Rattle.point_store_c.specs.RecordLaws.{written-in, record-kept, illegal-ill-formed}
-use Rattle.point_store_c.specs.HoldRecords.{holdWords, holdOut, holdIn, holdRecorded}
+use Rattle.point_store_c.specs.HoldRecords.{holdWords, holdOut, tailOut, holdIn, holdRecorded}
 
 -- the first seventeen words are the hold's, and a longer record keeps its rest
 pub hold-out-words : (words : List ℕ) (h : Hold) → 17 ≤ length words → holdOut words h ≡ holdWords h ++ drop 17 words
@@ -51,22 +51,21 @@ module _ (words : List ℕ) where
     unfolding holdIn
     long-read s e = rw (le-leb 17 (length words) l, e)
 
-    pub long-recorded : (h : Hold) (words′ : List ℕ) → words′ ≡ recorded words (h .store) → set (set words′ 15 (h .width)) 16 (h .held) ≡ holdRecorded words h
+    pub long-recorded : (h : Hold) (words′ : List ℕ) → words′ ≡ recorded words (h .store) → tailOut words′ (h .width) (h .held) ≡ holdRecorded words h
     unfolding holdRecorded
     long-recorded h words′ e = rw (le-leb 17 (length words) l, e)
 
 -- the words of the store, then the two more
-pub two-more : (words words′ : List ℕ) (h : Hold) → words′ ≡ storeOut words (h .store) → set (set words′ 15 (h .width)) 16 (h .held) ≡ holdOut words h
-unfolding storeOut holdOut
+pub two-more : (words words′ : List ℕ) (h : Hold) → words′ ≡ storeOut words (h .store) → tailOut words′ (h .width) (h .held) ≡ holdOut words h
+unfolding storeOut holdOut tailOut
 two-more words words′ h e = rw e
 
 -- a call that leaves the hold leaves the record
 pub hold-record-kept : (words : List ℕ) → holdRecorded words (holdIn words) ≡ words
-unfolding holdRecorded holdIn
+unfolding holdRecorded holdIn tailOut
 hold-record-kept words = go (leb 17 (length words)) refl
   where
     go : (b : Bool) → leb 17 (length words) ≡ b → holdRecorded words (holdIn words) ≡ words
-    unfolding holdRecorded holdIn
     go true e = rw (e, record-kept words, set-getD words 15 0, set-getD words 16 0)
     go false e = rw e
 
@@ -75,9 +74,13 @@ pub short-ill-formed : (words : List ℕ) (m : HoldMemory ℕ) → length words 
 unfolding holdIn holdWellFormed wellFormed boundsHold
 short-ill-formed words m l = rw (lt-leb 17 (length words) l) refl
 
+long-ill-formed : (words : List ℕ) (m : HoldMemory ℕ) → 17 ≤ length words → legalRecord words ≡ false → holdWellFormed (pointHold (holdIn words) m) ≡ false
+unfolding holdIn holdWellFormed
+long-ill-formed words m l e = rw (le-leb 17 (length words) l, illegal-ill-formed words (m .store) e) refl
+
 pub illegal-hold-ill-formed : (words : List ℕ) (m : HoldMemory ℕ) → legalRecord words ≡ false → holdWellFormed (pointHold (holdIn words) m) ≡ false
-illegal-hold-ill-formed words m e = elim (decLt (length words) 17) [ yes l ↦ short-ill-formed words m l | no g ↦ long (omega arith) ]
-  where
-    long : 17 ≤ length words → holdWellFormed (pointHold (holdIn words) m) ≡ false
-    unfolding holdIn holdWellFormed
-    long l = rw (le-leb 17 (length words) l, illegal-ill-formed words (m .store) e) refl
+illegal-hold-ill-formed words m e =
+    elim (decLt (length words) 17) [
+      | yes l ↦ short-ill-formed words m l
+      | no g ↦ long-ill-formed words m (omega arith) e
+    ]

@@ -17,6 +17,10 @@ holdWords h = storeWords (h .store) ++ h .width ∷ h .held ∷ []
 unfoldable pub holdOut : List ℕ → Hold → List ℕ
 holdOut words h = sets words 0 (holdWords h)
 
+-- the record after its last two words were written
+unfoldable pub tailOut : List ℕ → (width held : ℕ) → List ℕ
+tailOut words width held = sets words 15 (width ∷ held ∷ [])
+
 -- the hold that a record holds; one too short is read as the record of zeros
 unfoldable pub holdIn : List ℕ → Hold
 holdIn words =
@@ -27,4 +31,4 @@ holdIn words =
 -- the record after a call that leaves the hold h; one too short is left as it was, and so are the words of a store that is none
 unfoldable pub holdRecorded : List ℕ → Hold → List ℕ
 holdRecorded words h =
-    cond (leb 17 (length words)) (sets (recorded words (h .store)) 15 (h .width ∷ h .held ∷ [])) words
+    cond (leb 17 (length words)) (tailOut (recorded words (h .store)) (h .width) (h .held)) words

@@ -2,7 +2,7 @@
 ghost use mathlib.Core.Path.{_≡_};
 ghost use Prim.Native.Nat.{_≤_};
 ghost use lib.ListN.{length};
-ghost use Rattle.point_store_c.specs.HoldRecords.{holdIn, holdOut, holdRecorded};
+ghost use Rattle.point_store_c.specs.HoldRecords.{tailOut, holdOut, holdIn, holdRecorded};
 use crate::record::record_write;
 use crate::record::store_in;
 use crate::record::store_out;
@@ -24,14 +24,22 @@ pub fn hold_in(words: &[u64]) -> Hold
     Hold { store, width, held }
 }
 
+// The two words after the store's.
+fn tail_write(words: &mut [u64], width: usize, held: usize)
+    requires { ⌜ 17 ≤ length (now words) ⌝ }
+    ensures { λ _. ⌜ now (words .exit) ≡ tailOut (now (words .entry)) width held ⌝ }
+{
+    words[15] = width as u64;
+    words[16] = held as u64;
+}
+
 pub fn hold_write(words: &mut [u64], h: Hold)
     requires { ⌜ 17 ≤ length (now words) ⌝ }
     ensures { λ _. ⌜ now (words .exit) ≡ holdOut (now (words .entry)) h ⌝ }
 {
     let s = h.store;
     record_write(words, s);
-    words[15] = h.width as u64;
-    words[16] = h.held as u64;
+    tail_write(words, h.width, h.held);
 }
 
 // A record that is too short is left as it was, and so are the words of a store in it that is none.
@@ -41,7 +49,6 @@ pub fn hold_out(words: &mut [u64], h: Hold)
     if HOLD_WORDS <= words.len() {
         let s = h.store;
         store_out(words, s);
-        words[15] = h.width as u64;
-        words[16] = h.held as u64;
+        tail_write(words, h.width, h.held);
     }
 }

@@ -1,5 +1,4 @@
 -- Zeros.
-use borrow.Author.Needs.{needs}
 use Rattle.hold_opening.proofs.no_hold.Statement.{statement}
 use Rattle.hold_opening.proofs.no_hold.Tie as tie
 

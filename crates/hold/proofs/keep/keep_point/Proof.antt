@@ -1,12 +1,9 @@
 -- By what the add gave, and by how many are held.
 use Prim.Native.Nat.{ℕ}
-use mathlib.Core.Path.{_≡_, refl, sym, ap, _∙_}
 use native.Mathlib.Omega.{arith}
-use borrow.Author.Needs.{needs}
 use Rattle.store_definitions.specs.Memory.{Memory, pointStore}
 use Rattle.hold_definitions.specs.Lent.{holdHeld}
 use Rattle.hold_definitions.specs.Memory.{HoldMemory, pointHold}
-use mathlib.Core.Bool.{true}
 use lib.ListN.{length, getD, replicate}
 use Rattle.store_counts.specs.Elements.{refilled}
 use Rattle.hold.specs.Keeping.{oldestLabelIn, kept-more, kept-full, not-kept}

@@ -1,5 +1,4 @@
 -- By the flag.
-use borrow.Author.Needs.{needs}
 use native.Mathlib.Omega.{arith}
 use Rattle.hold.proofs.keep.oldest_label.Statement.{statement}
 use Rattle.hold.proofs.keep.oldest_label.Tie as tie

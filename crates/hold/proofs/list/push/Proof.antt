@@ -1,6 +1,5 @@
 -- One entry is written.
 use native.Mathlib.Omega.{arith}
-use lib.ListN.{length-set}
 use borrow.Author.Needs.{needs}
 use Rattle.hold.specs.Moves.{pushed}
 use Rattle.hold.proofs.list.push.Statement.{statement}

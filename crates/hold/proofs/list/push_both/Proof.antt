@@ -1,6 +1,4 @@
 -- One table, and with labels on the other.
-use mathlib.Core.Path.{_∙_, refl}
-use borrow.Author.Needs.{needs}
 use Rattle.hold.proofs.list.push_both.Statement.{statement}
 use Rattle.hold.proofs.list.push_both.Tie as tie
 

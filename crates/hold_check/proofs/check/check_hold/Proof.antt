@@ -1,6 +1,5 @@
 -- The store's check, the record, and then the list.
-use borrow.Author.Needs.{needs}
-use mathlib.Core.Path.{refl, sym, ap, _∙_}
+use mathlib.Core.Path.{sym, _∙_}
 use Rattle.hold_definitions.specs.Lent.{holdHeld}
 use Rattle.hold_definitions.specs.Memory.{pointHold}
 use Rattle.store_check.specs.CheckLaws.{well-formed-lengths}

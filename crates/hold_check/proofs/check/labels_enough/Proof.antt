@@ -1,5 +1,4 @@
 -- By the flag.
-use borrow.Author.Needs.{needs}
 use Rattle.hold_check.proofs.check.labels_enough.Statement.{statement}
 use Rattle.hold_check.proofs.check.labels_enough.Tie as tie
 

@@ -1,5 +1,4 @@
 -- The clauses as they stand.
-use borrow.Author.Needs.{needs}
 use Rattle.hold_definitions.specs.WellFormed.{widthAllowed}
 use Rattle.hold_check.specs.CheckLaws.{recordHolds}
 use Rattle.hold_check.proofs.check.record_holds.Statement.{statement}

@@ -1,5 +1,4 @@
 -- Each return follows from the tests that led to it.
-use borrow.Author.Needs.{needs}
 use mathlib.Core.Path.{sym, _∙_}
 use borrow.Author.Tests.{eq-eqb, ne-eqb}
 use Rattle.hold_check.specs.CheckLaws.{listHolds}

@@ -2,15 +2,13 @@
 use Prim.Native.Nat.{ℕ, suc, _+_, _-_, _≤_}
 use native.Mathlib.Omega.{arith}
 use native.Mathlib.Numerals.{add-one}
-use mathlib.Core.Bool.{Bool, _&&_}
-use mathlib.Core.List.{List, [], _∷_, _++_}
-use mathlib.Core.Path.{_≡_, refl, sym, ap, subst, _∙_}
+use mathlib.Core.List.{[], _∷_, _++_}
+use mathlib.Core.Path.{_≡_, refl, ap, _∙_}
 use lib.ListN.{length, getD, take}
-use lib.Seq.{take-suc, take-all}
+use lib.Seq.{take-suc}
 use borrow.Author.Needs.{needs}
-use borrow.Author.Needs.{scaled-fits}
 use Rattle.hold_definitions.specs.Listed.{everyNamed}
-use Rattle.hold_check.specs.ListedOnce.{listedOnce, entryListed, entryMarked, Marks, marks-none, marks-more, listed-more}
+use Rattle.hold_check.specs.ListedOnce.{listedOnce, Marks, marks-none, marks-more, listed-more}
 use Rattle.hold_check.proofs.list.mark_list.Statement.{statement}
 use Rattle.hold_check.proofs.list.mark_list.Tie as tie
 

@@ -1,9 +1,8 @@
 -- The invariant: the first k entries are copied.
-use Prim.Native.Nat.{ℕ, suc, _+_, _-_, _≤_}
+use Prim.Native.Nat.{suc, _-_, _≤_}
 use native.Mathlib.Omega.{arith}
-use native.Mathlib.Numerals.{add-one}
-use mathlib.Core.List.{List, _∷_, _++_}
-use mathlib.Core.Path.{_≡_, refl, sym, ap, _∙_}
+use mathlib.Core.List.{_++_}
+use mathlib.Core.Path.{_≡_, refl, _∙_}
 use lib.ListN.{length, getD, take, drop, length-set}
 use borrow.Author.Needs.{needs}
 use Rattle.hold_check.proofs.MarkLaws.{copied-none, copied-more, copied-all}

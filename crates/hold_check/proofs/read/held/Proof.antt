@@ -1,10 +1,10 @@
 -- The check, the length, and then the list.
-use borrow.Author.Needs.{needs}
-use mathlib.Core.Path.{refl, sym, ap, _∙_}
+use Prim.Native.Nat.{ℕ}
+use mathlib.Core.List.{List}
+use Rattle.store_definitions.specs.Answers.{done, output}
+use mathlib.Core.Path.{sym, ap, _∙_}
 use Rattle.hold_definitions.specs.Lent.{holdHeld}
 use Rattle.hold_definitions.specs.Memory.{pointHold}
-use native.Mathlib.Omega.{arith}
-use borrow.Author.Tests.{eq-eqb, ne-eqb}
 use lib.ListN.{length}
 use Rattle.hold_definitions.specs.ReadingLaws.{held-ill, held-short, held-whole, held-fits}
 use Rattle.hold_check.proofs.read.held.Statement.{statement}
@@ -26,7 +26,7 @@ returns : tie.Need-returns
 returns c =
     let a = c .before .before .before .before .before .before .before .before .before .before .before .before .before .before .before .before .before .before .before .before .before .before .before .before .before .before .args in
     let h = pointHold (a .h) (holdHeld (a .store) (a .last-known-shingle) (a .reference-count) (a .location) (a .index-starts) (a .index-ends) (a .labels) (a .label-attributes) (a .label-count) (a .label-starts) (a .label-ends) (a .attributes) (a .attribute-count) (a .attribute-starts) (a .attribute-ends) (a .held-indices) (a .held-labels)) in
-    ap (λ (xs : mathlib.Core.List.List Prim.Native.Nat.ℕ). Rattle.store_definitions.specs.Answers.output Rattle.store_definitions.specs.Answers.done xs) (c .before .before .copy-list .ensures) ∙ held-whole h (sym (c .before .before .before .before .before .before .before .check-hold .ensures) ∙ c .before .before .before .before .before .before .if1 .taken) (a .out .now) (c .before .before .before .before .if2 .taken)
+    ap (λ (xs : List ℕ). output done xs) (c .before .before .copy-list .ensures) ∙ held-whole h (sym (c .before .before .before .before .before .before .before .check-hold .ensures) ∙ c .before .before .before .before .before .before .if1 .taken) (a .out .now) (c .before .before .before .before .if2 .taken)
 
 returns-2 : tie.Need-returns-2
 returns-2 c =

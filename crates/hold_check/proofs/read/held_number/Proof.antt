@@ -1,6 +1,5 @@
 -- The check, and then the number.
-use borrow.Author.Needs.{needs}
-use mathlib.Core.Path.{refl, sym, ap, _∙_}
+use mathlib.Core.Path.{sym, _∙_}
 use Rattle.hold_definitions.specs.Lent.{holdHeld}
 use Rattle.hold_definitions.specs.Memory.{pointHold}
 use Rattle.hold_definitions.specs.ReadingLaws.{number-ill, number-well}
