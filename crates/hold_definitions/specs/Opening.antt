@@ -1,22 +1,16 @@
 -- Opening a hold: its store, its width, and an empty list.
 use Prim.Native.Nat.{ℕ}
-use mathlib.Core.Bool.{Bool, not, _&&_}
+use mathlib.Core.Bool.{not}
 use Rattle.interval_store_manager.specs.Calls.{Decided, go, refuse}
 use Rattle.store_definitions.specs.declared.Shape.{Shape}
 use Rattle.store_definitions.specs.Memory.{PointStore}
-use Rattle.store_definitions.specs.Bounds.{boundsHold, startAllowed}
 use Rattle.store_definitions.specs.Decisions.{andThen, refuseIf}
 use Rattle.store_definitions.specs.Answers.{done, refused}
-use Rattle.store_definitions.specs.Opening.{openDecided, noRecord, opened}
+use Rattle.store_definitions.specs.Opening.{shapeAllowed, openDecided, noRecord, opened}
 use Rattle.hold_definitions.specs.declared.Hold.{Hold}
 use Rattle.hold_definitions.specs.Memory.{HoldMemory, PointHold, pointHold}
 use Rattle.hold_definitions.specs.Answers.{HoldOutcome, holdOutcome}
 use Rattle.hold_definitions.specs.WellFormed.{widthAllowed, tablesLent}
-
--- the shape check of every opening
-abbrev pub shapeAllowed : Shape → Bool
-shapeAllowed s =
-    boundsHold (s .dimensions) (s .«shingle_size») (s .capacity) && startAllowed (s .«initial_capacity») (s .capacity)
 
 -- 2, then 15, then 1: 'A width of 0, or one not below capacity, gets 15 after the shape check.'
 unfoldable pub holdOpenDecided : {E : Type 0} → Shape → ℕ → HoldMemory E → Decided

@@ -18,7 +18,7 @@ use Rattle.store_definitions.specs.Answers.{done, refused}
 use Rattle.store_definitions.specs.Bounds.{lentEnough}
 use Rattle.store_definitions.specs.Parts.{labelHalf, withLabels}
 use Rattle.store_definitions.specs.Decisions.{andThen, refuseIf}
-use Rattle.store_definitions.specs.Opening.{openDecided, freshRecord, openedMemory, opened}
+use Rattle.store_definitions.specs.Opening.{shapeAllowed, openDecided, freshRecord, openedMemory, opened}
 use Rattle.store_laws.specs.Cases.{by-cases, asked}
 use Rattle.store_laws.specs.Sound.{sound-make}
 use Rattle.store_laws.specs.DecisionLaws.{both-go, not-refused}
@@ -27,7 +27,7 @@ use Rattle.hold_definitions.specs.Memory.{HoldMemory, PointHold, pointHo
 use Rattle.hold_definitions.specs.Answers.{HoldOutcome, holdOutcome}
 use Rattle.hold_definitions.specs.Listed.{times}
 use Rattle.hold_definitions.specs.WellFormed.{widthAllowed, tablesLent}
-use Rattle.hold_definitions.specs.Opening.{shapeAllowed, holdOpenDecided, freshHold, noHold, holdOpenCarriedOut, holdOpenSpec}
+use Rattle.hold_definitions.specs.Opening.{holdOpenDecided, freshHold, noHold, holdOpenCarriedOut, holdOpenSpec}
 use Rattle.hold_definitions.specs.CountsAfter.{countNow, counted-below, counted-past}
 use Rattle.hold_definitions.specs.Sound.{width-sound, HoldSound}
 

@@ -15,12 +15,12 @@ use Rattle.store_definitions.specs.Memory.{Memory, PointStore, pointStore}
 use Rattle.store_definitions.specs.Answers.{Answer, kept, waiting, done, is, says, refused, refusedAfter, doneMeans, Outcome, outcome}
 use Rattle.store_definitions.specs.Bounds.{boundsHold, startAllowed}
 use Rattle.store_definitions.specs.Decisions.{andThen, refuseIf, carriedOut}
-use Rattle.store_definitions.specs.Opening.{openDecided, noRecord, opened, openSpec}
+use Rattle.store_definitions.specs.Opening.{shapeAllowed, openDecided, noRecord, opened, openSpec}
 use Rattle.hold_definitions.specs.declared.HoldDoneResult.{HoldDoneResult}
 use Rattle.hold_definitions.specs.Memory.{HoldMemory, pointHold}
 use Rattle.hold_definitions.specs.Answers.{HoldOutcome, holdOutcome}
 use Rattle.hold_definitions.specs.WellFormed.{widthAllowed, tablesLent}
-use Rattle.hold_definitions.specs.Opening.{shapeAllowed, holdOpenDecided, freshHold, noHold, holdOpenCarriedOut, holdOpenSpec}
+use Rattle.hold_definitions.specs.Opening.{holdOpenDecided, freshHold, noHold, holdOpenCarriedOut, holdOpenSpec}
 
 -- what the store's opening gives to the hold
 abbrev pub openedAs : Done → Store → ℕ → HoldDoneResult

@@ -9,7 +9,8 @@ use Rattle.store_definitions.specs.Answers.{Answer, kept, waiting, done, is, sa
 use Rattle.hold_definitions.specs.declared.Hold.{Hold}
 use Rattle.hold_definitions.specs.Answers.{HoldOutcome}
 use Rattle.hold_definitions.specs.Memory.{HoldMemory}
-use Rattle.hold_definitions.specs.Opening.{shapeAllowed, holdOpenSpec}
+use Rattle.store_definitions.specs.Opening.{shapeAllowed}
+use Rattle.hold_definitions.specs.Opening.{holdOpenSpec}
 use Rattle.hold_definitions.specs.WellFormed.{widthAllowed}
 use Rattle.point_store_c.specs.ExportedStore.{returned, answered}
 use Rattle.point_store_c.specs.HoldRecords.{holdOut, holdRecorded}
