@@ -38,7 +38,8 @@
  *   changes nothing and writes no answer, with two exceptions:
  *   - PS_FLOAT_SPACE_FULL (10) leaves floats, places, free start and store length as compaction and growth made them;
  *   - the pairs before an adjust's refused one stand, and how many they are is told.
- *   A 1 can mean a store that was never opened, a slice too short, or contents that are no store: ps_store_state() tells which.
+ *   A 1 can mean a store that was never opened, a slice too short, or contents that are no store: ps_store_state() tells which, and
+ *   ps_hold_state() of a hold.
  *
  * What a caller owes
  *   - A length is true of its pointer: that many elements can be read there and, where the pointer is not const, written.
