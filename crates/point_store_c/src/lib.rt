@@ -4,7 +4,7 @@
 // document 01 says: what an add refused with 10 made of the floats, the pairs before an adjust's refused one, and their number.
 mod answers;
 mod counts;
-mod hold;
+mod hold_calls;
 mod hold_record;
 mod label_readings;
 mod manager;

@@ -6,17 +6,17 @@ use Rattle.point_store_c.proofs.hold_record.hold_write.Statement.{state
 use Rattle.point_store_c.proofs.hold_record.hold_write.Tie as tie
 
 record-write-requires : tie.Need-record-write-requires
-record-write-requires c κs = omega (arith, c .before .before .pre)
+record-write-requires c κs = omega (arith, c .before .before .before .pre)
 
 tail-write-requires : tie.Need-tail-write-requires
-tail-write-requires c κs = omega (arith, c .before .before .before .record-write .kept .0, c .before .before .before .before .before .before .pre)
+tail-write-requires c κs = omega (arith, c .before .before .before .record-write .kept .0, c .before .before .before .before .before .before .before .pre)
 
 same-length : tie.Need-same-length
 same-length c = c .before .before .tail-write .kept .0 ∙ c .before .before .before .before .before .before .record-write .kept .0
 
 returns : tie.Need-returns
 returns c =
-    let a = c .before .before .before .before .before .before .before .before .before .args in
+    let a = c .before .before .before .before .before .before .before .before .before .before .args in
     let r = c .before .before .before .before .before .before .record-write in
     c .before .before .tail-write .ensures ∙ two-more (a .words .now) (r .last .0) (a .h) (r .ensures)
 

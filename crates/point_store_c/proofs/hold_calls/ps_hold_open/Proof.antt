@@ -3,8 +3,8 @@ use Rattle.store_definitions.specs.Answers.{doneMeans}
 use Rattle.point_store_c.specs.ExportedStore.{shapeIn}
 use Rattle.point_store_c.specs.ExportedStoreLaws.{memory}
 use Rattle.point_store_c.specs.ExportedHoldLaws.{holdMemory, hold-open-short, hold-open-long}
-use Rattle.point_store_c.proofs.hold.ps_hold_open.Statement.{statement}
-use Rattle.point_store_c.proofs.hold.ps_hold_open.Tie as tie
+use Rattle.point_store_c.proofs.hold_calls.ps_hold_open.Statement.{statement}
+use Rattle.point_store_c.proofs.hold_calls.ps_hold_open.Tie as tie
 
 shape-in-requires : tie.Need-shape-in-requires
 shape-in-requires c κs = tt

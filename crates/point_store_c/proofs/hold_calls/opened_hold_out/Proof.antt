@@ -1,8 +1,8 @@
 -- An accepted opening writes the record.
 use mathlib.Core.Path.{refl}
 use borrow.Author.Needs.{needs}
-use Rattle.point_store_c.proofs.hold.opened_hold_out.Statement.{statement}
-use Rattle.point_store_c.proofs.hold.opened_hold_out.Tie as tie
+use Rattle.point_store_c.proofs.hold_calls.opened_hold_out.Statement.{statement}
+use Rattle.point_store_c.proofs.hold_calls.opened_hold_out.Tie as tie
 
 enum-known-answer : tie.Need-enum-known-answer
 enum-known-answer c = search needs

@@ -5,8 +5,8 @@ use Rattle.float_bits.specs.Words.{wordsEqual}
 use Rattle.hold_definitions.specs.Adding.{holdAddSpec}
 use Rattle.point_store_c.specs.ExportedStoreLaws.{memory}
 use Rattle.point_store_c.specs.ExportedHoldLaws.{holdMemory, hold-call-exported}
-use Rattle.point_store_c.proofs.hold.ps_hold_add.Statement.{statement}
-use Rattle.point_store_c.proofs.hold.ps_hold_add.Tie as tie
+use Rattle.point_store_c.proofs.hold_calls.ps_hold_add.Statement.{statement}
+use Rattle.point_store_c.proofs.hold_calls.ps_hold_add.Tie as tie
 
 hold-in-requires : tie.Need-hold-in-requires
 hold-in-requires c κs = tt

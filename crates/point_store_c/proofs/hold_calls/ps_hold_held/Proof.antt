@@ -3,8 +3,8 @@ use Rattle.store_definitions.specs.Answers.{doneMeans}
 use Rattle.hold_definitions.specs.Readings.{heldSpec}
 use Rattle.point_store_c.specs.ExportedStoreLaws.{memory}
 use Rattle.point_store_c.specs.ExportedHoldLaws.{holdMemory, hold-output-exported}
-use Rattle.point_store_c.proofs.hold.ps_hold_held.Statement.{statement}
-use Rattle.point_store_c.proofs.hold.ps_hold_held.Tie as tie
+use Rattle.point_store_c.proofs.hold_calls.ps_hold_held.Statement.{statement}
+use Rattle.point_store_c.proofs.hold_calls.ps_hold_held.Tie as tie
 
 hold-in-requires : tie.Need-hold-in-requires
 hold-in-requires c κs = tt

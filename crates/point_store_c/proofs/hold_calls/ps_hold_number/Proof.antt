@@ -4,8 +4,8 @@ use Rattle.store_definitions.specs.Answers.{numberMeans}
 use Rattle.hold_definitions.specs.Readings.{heldNumberSpec}
 use Rattle.point_store_c.specs.ExportedStoreLaws.{memory}
 use Rattle.point_store_c.specs.ExportedHoldLaws.{holdMemory, hold-reading-exported}
-use Rattle.point_store_c.proofs.hold.ps_hold_number.Statement.{statement}
-use Rattle.point_store_c.proofs.hold.ps_hold_number.Tie as tie
+use Rattle.point_store_c.proofs.hold_calls.ps_hold_number.Statement.{statement}
+use Rattle.point_store_c.proofs.hold_calls.ps_hold_number.Tie as tie
 
 hold-in-requires : tie.Need-hold-in-requires
 hold-in-requires c κs = tt

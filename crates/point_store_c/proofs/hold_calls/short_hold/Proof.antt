@@ -2,8 +2,8 @@
 use mathlib.Core.Path.{_∙_}
 use Rattle.point_store_c.specs.ExportedHoldLaws.{short-wide, short-narrow, short-shape}
 use borrow.Author.Needs.{needs}
-use Rattle.point_store_c.proofs.hold.short_hold.Statement.{statement}
-use Rattle.point_store_c.proofs.hold.short_hold.Tie as tie
+use Rattle.point_store_c.proofs.hold_calls.short_hold.Statement.{statement}
+use Rattle.point_store_c.proofs.hold_calls.short_hold.Tie as tie
 
 bounds-hold-requires : tie.Need-bounds-hold-requires
 bounds-hold-requires c κs = tt
