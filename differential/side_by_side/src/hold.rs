@@ -9,6 +9,7 @@ mod made_up;
 mod memory;
 mod mixed;
 mod model;
+mod short_lists;
 mod sides;
 mod well_formed;
 
@@ -104,13 +105,32 @@ fn mixed() -> Result<Coverage, String> {
     Ok(coverage)
 }
 
+fn short_lists() -> Result<Coverage, String> {
+    let owed = [
+        "lists",
+        "accepted hold_add",
+        "refusal 3 of hold_add",
+        "refusal 10 of hold_add",
+        model::GAVE_UP,
+        "compared with the Rust",
+        "copies compared with those right after their adds",
+    ];
+    let mut coverage = counts(
+        "hold, every short list of adds over small shapes, beside the Rust",
+        &[&owed],
+    );
+    short_lists::every_short_list(if share(100) < 50 { 4 } else { 7 }, &mut coverage)?;
+    Ok(coverage)
+}
+
 /// The random lists come last, in two parts under one title.
-const PARTS: [Part; 7] = [
+const PARTS: [Part; 8] = [
     mixed,
     openings,
     broken,
     made_up,
     spoiled,
+    short_lists,
     || random_lists(31),
     || random_lists(32),
 ];

@@ -75,7 +75,7 @@ fn lengths(h: &LentHold, b: &mut Vec<&'static str>) {
         }
     }
     // A width that opening does not take may stand above the tables.
-    if held(h) > h.held_indices.len() && !b.contains(&"more held than the width") {
+    if held(h) > capacity && !b.contains(&"more held than the width") {
         b.push("more held than the width");
     }
 }
