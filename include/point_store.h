@@ -1,8 +1,9 @@
 /*
  * The proved point store: windows of float readings with counted indices, over memory that the caller lends.
  *
- * C99 and C++, x86-64. Link with libpoint_store_c.a, which needs memcpy and memset and nothing else. Nothing is allocated and no
- * state is kept between calls. docs/STORE.md in the repository says at length what the store does; this page says how to call it.
+ * C99 and C++, x86-64. Link with libpoint_store_c.a, which needs memcpy, memmove and memset and nothing else. Nothing is
+ * allocated and no state is kept between calls. docs/STORE.md in the repository says at length what the store does; this page
+ * says how to call it.
  *
  * Terms
  *   point, row       what a store keeps: `dimensions` floats.
@@ -38,7 +39,8 @@
  *   changes nothing and writes no answer, with two exceptions:
  *   - PS_FLOAT_SPACE_FULL (10) leaves floats, places, free start and store length as compaction and growth made them;
  *   - the pairs before an adjust's refused one stand, and how many they are is told.
- *   A 1 can mean a store that was never opened, a slice too short, or contents that are no store: ps_store_state() tells which.
+ *   A 1 can mean a store that was never opened, a slice too short, or contents that are no store: ps_store_state() tells which, and
+ *   ps_hold_state() of a hold.
  *
  * What a caller owes
  *   - A length is true of its pointer: that many elements can be read there and, where the pointer is not const, written.
@@ -133,10 +135,10 @@ static inline const char *ps_refusal_text(uint64_t number) {
 /* The floats of attribute_vec. */
 #define PS_ATTRIBUTE_FLOATS 10
 
-/* Words of a store's record, of a hold's and of a manager's. A store's are, in order: dimensions, shingle size, capacity, the flags of internal
- * shingling, rotation and labels, store length, free start, sequence; then capacity and entries in use of the managers of indices, of
- * label indices and of attribute slots. A hold's are its store's, then its width and how many points are held: every call of the
- * store takes them too, and leaves the last two. A manager's are its capacity and its entries in use. */
+/* Words of a store's record, of a hold's and of a manager's. A store's are, in order: dimensions, shingle size, capacity, the
+ * flags of internal shingling, rotation and labels, store length, free start, sequence; then capacity and entries in use of the
+ * managers of indices, of label indices and of attribute slots. A hold's are its store's, then its width and how many points are
+ * held: every call of the store takes them too, and leaves the last two. A manager's are its capacity and its entries in use. */
 #define PS_RECORD_WORDS 15
 #define PS_HOLD_WORDS 17
 #define PS_MANAGER_WORDS 2

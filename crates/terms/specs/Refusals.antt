@@ -32,5 +32,5 @@ number SequenceFull = 12
 number ManagerCapacity = 13
 -- release of an index free or not below capacity
 number NotReleasable = 14
--- a hold opened with a width of 0 or not below capacity
+-- a hold's width of 0, or not below capacity
 number HoldWidth = 15

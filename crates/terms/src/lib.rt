@@ -3,7 +3,7 @@
 ghost use mathlib.Core.Path.{_≡_};
 ghost use Rattle.terms.specs.Refusals.{number};
 
-// Why a call was refused: one case for each row of document 01's table, in the table's order.
+// Why a call was refused: one case for each number, in the numbers' order.
 pub enum Refusal {
     IllFormed,
     Shape,
