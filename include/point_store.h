@@ -1,8 +1,9 @@
 /*
  * The proved point store: windows of float readings with counted indices, over memory that the caller lends.
  *
- * C99 and C++, x86-64. Link with libpoint_store_c.a, which needs memcpy, memmove and memset and nothing else. Nothing is allocated and no
- * state is kept between calls. docs/STORE.md in the repository says at length what the store does; this page says how to call it.
+ * C99 and C++, x86-64. Link with libpoint_store_c.a, which needs memcpy, memmove and memset and nothing else. Nothing is
+ * allocated and no state is kept between calls. docs/STORE.md in the repository says at length what the store does; this page
+ * says how to call it.
  *
  * Terms
  *   point, row       what a store keeps: `dimensions` floats.
