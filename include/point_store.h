@@ -1,8 +1,9 @@
 /*
  * The proved point store: windows of float readings with counted indices, over memory that the caller lends.
  *
- * C99 and C++, x86-64. Link with libpoint_store_c.a, which needs memcpy and memset and nothing else. Nothing is allocated and no
- * state is kept between calls. docs/STORE.md in the repository says at length what the store does; this page says how to call it.
+ * C99 and C++, x86-64. Link with libpoint_store_c.a, which needs memcpy, memmove and memset and nothing else. Nothing is
+ * allocated and no state is kept between calls. docs/STORE.md in the repository says at length what the store does; this page
+ * says how to call it.
  *
  * Terms
  *   point, row       what a store keeps: `dimensions` floats.
@@ -28,13 +29,18 @@
  *                    like the index.
  *   attribute slot   an entry that the labels of one class share while any of them is live; its number is that of the table entry
  *                    that was free when the first of them came.
+ *   hold, width      a hold is a store of its own with a list of the points that it holds, the newest `width` kept ones: an add that
+ *                    would make it more gives up the oldest. The width is at least 1 and below `capacity`.
+ *   held, oldest     held is what stands in that list: every live point of the store inside, once and with count 1, in the order in
+ *                    which they were kept. The oldest is the first of them.
  *
  * What a call returns
  *   0 (PS_OK), or one of the refusal numbers below, the first that applies in the order that stands at the call. A refused call
  *   changes nothing and writes no answer, with two exceptions:
  *   - PS_FLOAT_SPACE_FULL (10) leaves floats, places, free start and store length as compaction and growth made them;
  *   - the pairs before an adjust's refused one stand, and how many they are is told.
- *   A 1 can mean a store that was never opened, a slice too short, or contents that are no store: ps_store_state() tells which.
+ *   A 1 can mean a store that was never opened, a slice too short, or contents that are no store: ps_store_state() tells which, and
+ *   ps_hold_state() of a hold.
  *
  * What a caller owes
  *   - A length is true of its pointer: that many elements can be read there and, where the pointer is not const, written.
@@ -46,7 +52,8 @@
  *   functions ps_store_.. below refuse NULL with 1 too; the functions that they call, declared first, ask for pointers that are not
  *   NULL, even where the length is 0.
  *
- * A store is a record of PS_RECORD_WORDS words and fifteen lent slices (struct ps_store). They belong to the caller and are handed
+ * A store is a record of PS_RECORD_WORDS words and fifteen lent slices (struct ps_store), a hold (struct ps_hold) one of PS_HOLD_WORDS
+ * and two slices more. They belong to the caller and are handed
  * to each call as the last one left them. They hold no address of each other: record and slices may be copied or moved, together
  * and between calls, to other memory or to a file and back; `memory` then names the new slices.
  *
@@ -66,9 +73,9 @@ extern "C" {
 
 /* The version of this header. ps_version_agrees() tells whether the archive has the same. */
 #define PS_VERSION_MAJOR 0
-#define PS_VERSION_MINOR 3
+#define PS_VERSION_MINOR 4
 #define PS_VERSION_PATCH 0
-#define PS_VERSION "0.3.0"
+#define PS_VERSION "0.4.0"
 
 /* The sizes that the declarations below rely on; where one differs, the line does not compile. */
 typedef char ps_size_t_has_8_bytes[sizeof(size_t) == 8 ? 1 : -1];
@@ -77,7 +84,7 @@ typedef char ps_float_has_4_bytes[sizeof(float) == 4 ? 1 : -1];
 /* What a call returns. */
 enum ps_refusal {
     PS_OK = 0,                  /* accepted */
-    PS_ILL_FORMED = 1,          /* ill-formed store or manager, or a lent slice too short for its part */
+    PS_ILL_FORMED = 1,          /* ill-formed store, hold or manager, or a lent slice too short for its part */
     PS_SHAPE = 2,               /* shape outside the bounds, on opening */
     PS_LENGTH = 3,              /* wrong length of a point or output slice */
     PS_LABEL_CODE = 4,          /* label code above 23, labels on */
@@ -90,13 +97,14 @@ enum ps_refusal {
     PS_VALUE_TOO_LARGE = 11,    /* listed value too large, look-ahead above 65,535, weight above 16,777,216 */
     PS_SEQUENCE_FULL = 12,      /* sequence number at 4,294,967,295 */
     PS_MANAGER_CAPACITY = 13,   /* manager opened at 0, or opened at or changed to above 1,024 */
-    PS_NOT_RELEASABLE = 14      /* release of an index free or not below capacity */
+    PS_NOT_RELEASABLE = 14,     /* release of an index free or not below capacity */
+    PS_HOLD_WIDTH = 15          /* hold opened with a width of 0 or not below capacity */
 };
 
 static inline const char *ps_refusal_text(uint64_t number) {
     switch (number) {
     case PS_OK: return "accepted";
-    case PS_ILL_FORMED: return "ill-formed store or manager, or a lent slice too short for its part";
+    case PS_ILL_FORMED: return "ill-formed store, hold or manager, or a lent slice too short for its part";
     case PS_SHAPE: return "shape outside the bounds";
     case PS_LENGTH: return "wrong length of a point or output slice";
     case PS_LABEL_CODE: return "label code above 23";
@@ -110,6 +118,7 @@ static inline const char *ps_refusal_text(uint64_t number) {
     case PS_SEQUENCE_FULL: return "sequence number at its limit";
     case PS_MANAGER_CAPACITY: return "manager capacity outside 1 to 1,024";
     case PS_NOT_RELEASABLE: return "index free already, or not below the capacity";
+    case PS_HOLD_WIDTH: return "hold width of 0, or not below the capacity";
     default: return "no refusal of this library";
     }
 }
@@ -126,10 +135,12 @@ static inline const char *ps_refusal_text(uint64_t number) {
 /* The floats of attribute_vec. */
 #define PS_ATTRIBUTE_FLOATS 10
 
-/* Words of a store's record and of a manager's. A store's are, in order: dimensions, shingle size, capacity, the flags of internal
- * shingling, rotation and labels, store length, free start, sequence; then capacity and entries in use of the managers of indices, of
- * label indices and of attribute slots. A manager's are its capacity and its entries in use. */
+/* Words of a store's record, of a hold's and of a manager's. A store's are, in order: dimensions, shingle size, capacity, the
+ * flags of internal shingling, rotation and labels, store length, free start, sequence; then capacity and entries in use of the
+ * managers of indices, of label indices and of attribute slots. A hold's are its store's, then its width and how many points are
+ * held: every call of the store takes them too, and leaves the last two. A manager's are its capacity and its entries in use. */
 #define PS_RECORD_WORDS 15
+#define PS_HOLD_WORDS 17
 #define PS_MANAGER_WORDS 2
 
 /* How much to lend for a shape. Longer slices are fine, what lies past is never touched. With labels off the nine label slices may
@@ -139,7 +150,9 @@ static inline const char *ps_refusal_text(uint64_t number) {
  *   reference_count, location, index_starts, index_ends            capacity entries each
  *   labels, label_attributes, label_count, label_starts, label_ends,
  *   attributes, attribute_count, attribute_starts, attribute_ends  PS_LABEL_ENTRIES(capacity, labels) entries each
- * PS_LABEL_ENTRIES is 1 with labels off, since C has no array of length 0.
+ * PS_LABEL_ENTRIES is 1 with labels off, since C has no array of length 0. A hold has two tables of 16 bits more:
+ *   held_indices                                                   capacity entries
+ *   held_labels                                                    PS_LABEL_ENTRIES(capacity, labels) entries
  */
 #define PS_FLOATS(capacity, dimensions) ((size_t)(capacity) * (size_t)(dimensions))
 #define PS_LABEL_ENTRIES(capacity, labels) ((labels) ? (size_t)(capacity) : (size_t)1)
@@ -150,6 +163,10 @@ static inline const char *ps_refusal_text(uint64_t number) {
 
 /* The same as one block of bytes, wherever it begins: what ps_memory_in() below takes. */
 #define PS_MEMORY_BYTES(capacity, dimensions, labels) (PS_BYTES(capacity, dimensions, labels) + 3)
+
+/* The same for a hold: what ps_hold_memory_in() takes. */
+#define PS_HOLD_MEMORY_BYTES(capacity, dimensions, labels) \
+    (PS_MEMORY_BYTES(capacity, dimensions, labels) + ((labels) ? (size_t)4 : (size_t)2) * (size_t)(capacity))
 
 /* The stack that a call needs at most, in bytes, whatever the shape. Only add and compact take more than two thirds of it. */
 #define PS_STACK 40960
@@ -211,6 +228,20 @@ uint64_t ps_label(const uint64_t *words, size_t words_len, PS_READ_, size_t labe
 uint64_t ps_attribute(const uint64_t *words, size_t words_len, PS_READ_, size_t label, uint64_t *class_);
 uint64_t ps_attribute_vec(const uint64_t *words, size_t words_len, PS_READ_,
     size_t label, float *out, size_t out_len);
+uint64_t ps_hold_open(uint64_t *words, size_t words_len, PS_WRITTEN_,
+    const uint16_t *held_indices, size_t held_indices_len, const uint16_t *held_labels, size_t held_labels_len,
+    size_t dimensions, size_t shingle_size, size_t capacity, size_t initial_capacity, size_t internal_shingling,
+    size_t internal_rotation, size_t store_labels, size_t width);
+uint64_t ps_hold_add(uint64_t *words, size_t words_len, PS_WRITTEN_,
+    uint16_t *held_indices, size_t held_indices_len, uint16_t *held_labels, size_t held_labels_len,
+    const uint32_t *point, size_t point_len, size_t label, uint64_t *kept, uint64_t *index, uint64_t *label_index,
+    uint64_t *joined, uint64_t *place);
+uint64_t ps_hold_held(const uint64_t *words, size_t words_len, PS_READ_,
+    const uint16_t *held_indices, size_t held_indices_len, const uint16_t *held_labels, size_t held_labels_len,
+    uint16_t *out, size_t out_len);
+uint64_t ps_hold_number(const uint64_t *words, size_t words_len, PS_READ_,
+    const uint16_t *held_indices, size_t held_indices_len, const uint16_t *held_labels, size_t held_labels_len,
+    uint64_t *number);
 
 #undef PS_WRITTEN_
 #undef PS_READ_
@@ -615,6 +646,151 @@ static inline enum ps_state ps_store_state(const struct ps_store *s) {
     return PS_STATE_ILL_FORMED;
 }
 
+/* ---- A hold as one struct ----
+ *
+ * A hold is a store and the list of what it holds. The readings of the store inside are those of every store: ps_store_copy(&h.store,
+ * ..) and the others. ps_store_compact(&h.store) leaves it a hold. Where another call changes the store inside, the list may no
+ * longer name each live point once with count 1: the hold is then ill-formed, and its calls get 1. */
+
+/* Set up `store.memory` and the two tables, by hand or with ps_hold_memory_in(), then open; the rest is the library's to write. */
+struct ps_hold {
+    struct ps_store store;
+    uint64_t width;
+    uint64_t held;          /* how many points are held */
+    uint16_t *held_indices; /* their indices, oldest first */
+    size_t held_indices_len;
+    uint16_t *held_labels;  /* their label indices; not looked at with labels off */
+    size_t held_labels_len;
+};
+
+/* The record as the library takes it. */
+struct ps_hold_record {
+    uint64_t words[PS_HOLD_WORDS];
+};
+
+static inline struct ps_hold_record ps_hold_record_of(const struct ps_hold *h) {
+    struct ps_hold_record r;
+    size_t i;
+    for (i = 0; i < PS_RECORD_WORDS; i++)
+        r.words[i] = h->store.words[i];
+    r.words[PS_RECORD_WORDS] = h->width;
+    r.words[PS_RECORD_WORDS + 1] = h->held;
+    return r;
+}
+
+static inline void ps_hold_record_to(struct ps_hold *h, const struct ps_hold_record *r) {
+    size_t i;
+    for (i = 0; i < PS_RECORD_WORDS; i++)
+        h->store.words[i] = r->words[i];
+    h->width = r->words[PS_RECORD_WORDS];
+    h->held = r->words[PS_RECORD_WORDS + 1];
+}
+
+#define PS_HELD_(access, h, r) \
+    (r).words, PS_HOLD_WORDS, PS_TABLES_(access, &(h)->store.memory), \
+    PS_SLICE_(access uint16_t, (h)->held_indices, (h)->held_indices_len), \
+    PS_SLICE_(access uint16_t, (h)->held_labels, (h)->held_labels_len)
+
+/* How many bytes ps_hold_memory_in() needs for a shape; 0 for one outside the bounds. */
+static inline size_t ps_hold_memory_bytes(const struct ps_shape *shape) {
+    return ps_shape_check(shape) == PS_OK ? PS_HOLD_MEMORY_BYTES(shape->capacity, shape->dimensions, shape->store_labels) : 0;
+}
+
+/* Lends a hold its slices out of one block, as ps_memory_in() does for a store: ps_store_hold_open() comes next. Refused with 1 for
+ * NULL, 2, and 1 for a block shorter than ps_hold_memory_bytes(shape). */
+static inline uint64_t ps_hold_memory_in(void *block, size_t bytes, const struct ps_shape *shape, struct ps_hold *h) {
+    static struct ps_hold empty; /* never written */
+    struct ps_store s;
+    uint64_t number;
+    unsigned char *at;
+    if (!h)
+        return PS_ILL_FORMED;
+    number = ps_memory_in(block, bytes, shape, &s);
+    if (number != PS_OK)
+        return number;
+    if (bytes < ps_hold_memory_bytes(shape))
+        return PS_ILL_FORMED;
+    /* the two tables stand after the store's slices, which begin with the floats and have an even number of bytes */
+    at = (unsigned char *)(void *)s.memory.store + PS_BYTES(shape->capacity, shape->dimensions, shape->store_labels);
+    *h = empty;
+    h->store = s;
+    h->held_indices = (uint16_t *)(void *)at;
+    h->held_indices_len = shape->capacity;
+    if (shape->store_labels) {
+        h->held_labels = h->held_indices + shape->capacity;
+        h->held_labels_len = shape->capacity;
+    }
+    return PS_OK;
+}
+
+/* Opens a hold of the newest `width` points, empty. A second open empties it. Refused with 1 for NULL, then 2, 15, 1. */
+static inline uint64_t ps_store_hold_open(struct ps_hold *h, const struct ps_shape *shape, size_t width) {
+    struct ps_hold_record r;
+    uint64_t number;
+    if (!h || !shape)
+        return PS_ILL_FORMED;
+    r = ps_hold_record_of(h);
+    number = ps_hold_open(PS_HELD_(PS_NOTHING_, h, r), shape->dimensions, shape->shingle_size, shape->capacity,
+        shape->initial_capacity, (size_t)shape->internal_shingling, (size_t)shape->internal_rotation,
+        (size_t)shape->store_labels, width);
+    ps_hold_record_to(h, &r);
+    return number;
+}
+
+/* Adds a point as ps_store_add() does, with its answer and its refusals; 1 is for an ill-formed hold too. Where the point is kept and
+ * more than `width` are held, the oldest is given up after it: one dec of its index and label index. Waiting and refused adds give up
+ * nothing. With rotation a hold can get 10 for good: compaction moves a held row only where its turn stays, and no refused add makes
+ * room; a row that joins the last one is taken all the same. 9 never comes. Refused with 1, 3, 12, 4, 8, 10. */
+static inline uint64_t ps_store_hold_add(
+    struct ps_hold *h, const float *point, size_t point_len, size_t label, struct ps_added *added) {
+    struct ps_hold_record r;
+    uint64_t number;
+    if (!h || !added || PS_MISSING_(point, point_len))
+        return PS_ILL_FORMED;
+    r = ps_hold_record_of(h);
+    number = ps_hold_add(PS_HELD_(PS_NOTHING_, h, r), PS_SLICE_(const uint32_t, point, point_len), label, &added->kept,
+        &added->index, &added->label_index, &added->joined, &added->place);
+    ps_hold_record_to(h, &r);
+    return number;
+}
+
+/* The held indices, oldest first, into exactly as many entries as are held; where none is, `out` may be NULL of length 0. Refused
+ * with 1, 3. */
+static inline uint64_t ps_store_hold_held(const struct ps_hold *h, uint16_t *out, size_t out_len) {
+    struct ps_hold_record r;
+    if (!h || PS_MISSING_(out, out_len))
+        return PS_ILL_FORMED;
+    r = ps_hold_record_of(h);
+    return ps_hold_held(PS_HELD_(const, h, r), PS_SLICE_(uint16_t, out, out_len));
+}
+
+/* How many points are held. Refused with 1. */
+static inline uint64_t ps_store_hold_number(const struct ps_hold *h, uint64_t *number) {
+    struct ps_hold_record r;
+    if (!h || !number)
+        return PS_ILL_FORMED;
+    r = ps_hold_record_of(h);
+    return ps_hold_number(PS_HELD_(const, h, r), number);
+}
+
+/* What is behind a 1 of a hold: PS_STATE_ILL_FORMED also where the store inside is well-formed and the list does not fit it. */
+static inline enum ps_state ps_hold_state(const struct ps_hold *h) {
+    uint64_t number;
+    enum ps_state inside;
+    if (!h)
+        return PS_STATE_NEVER_OPENED;
+    if (ps_store_hold_number(h, &number) == PS_OK)
+        return PS_STATE_WELL_FORMED;
+    inside = ps_store_state(&h->store);
+    if (inside != PS_STATE_WELL_FORMED)
+        return inside;
+    if ((h->held_indices ? h->held_indices_len : 0) < h->store.words[2] ||
+        (h->store.words[5] && (h->held_labels ? h->held_labels_len : 0) < h->store.words[2]))
+        return PS_STATE_TOO_SHORT;
+    return PS_STATE_ILL_FORMED;
+}
+
+#undef PS_HELD_
 #undef PS_SLICE_
 #undef PS_TABLES_
 #undef PS_NOTHING_

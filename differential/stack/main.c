@@ -11,20 +11,19 @@
 enum { STACK = 1 << 20, PAINT = 0xa5, CAPACITY = 1024, DIMENSIONS = 16, SHINGLE_SIZE = 16 };
 
 static float floats[PS_FLOATS(CAPACITY, DIMENSIONS)], window[DIMENSIONS], row[DIMENSIONS], out[DIMENSIONS];
-static uint16_t tables[10][CAPACITY];
+static uint16_t tables[10][CAPACITY], held_indices[CAPACITY], held_labels[CAPACITY], held[CAPACITY];
 static uint8_t labels[CAPACITY], attributes[CAPACITY];
 static uint32_t attribute_count[CAPACITY];
 static struct ps_store s = {{0}, {floats, PS_FLOATS(CAPACITY, DIMENSIONS), window, DIMENSIONS, tables[0], CAPACITY, tables[1],
     CAPACITY, tables[2], CAPACITY, tables[3], CAPACITY, labels, CAPACITY, tables[4], CAPACITY, tables[5], CAPACITY, tables[6],
     CAPACITY, tables[7], CAPACITY, attributes, CAPACITY, attribute_count, CAPACITY, tables[8], CAPACITY, tables[9], CAPACITY}};
+static struct ps_hold h;
 static struct ps_added added;
 static uint64_t number, answer;
 
 static void nothing(void) {}
-static void open_store(void) {
-    static const struct ps_shape shape = {DIMENSIONS, SHINGLE_SIZE, CAPACITY, CAPACITY, 0, 1, 1};
-    number = ps_store_open(&s, &shape);
-}
+static const struct ps_shape shape = {DIMENSIONS, SHINGLE_SIZE, CAPACITY, CAPACITY, 0, 1, 1};
+static void open_store(void) { number = ps_store_open(&s, &shape); }
 static void add(void) { number = ps_store_add(&s, row, DIMENSIONS, 3, &added); }
 static void inc(void) { number = ps_store_inc(&s, 0, 0); }
 static void dec(void) { number = ps_store_dec(&s, 0, 0); }
@@ -42,6 +41,10 @@ static void point_sum(void) {
 }
 static void shingled_point(void) { number = ps_store_shingled_point(&s, row, DIMENSIONS, out, DIMENSIONS); }
 static void attribute_vec(void) { number = ps_store_attribute_vec(&s, 0, out, PS_ATTRIBUTE_FLOATS); }
+
+static void hold_open(void) { number = ps_store_hold_open(&h, &shape, CAPACITY - 1); }
+static void hold_add(void) { number = ps_store_hold_add(&h, row, DIMENSIONS, 3, &added); }
+static void hold_held(void) { number = ps_store_hold_held(&h, held, CAPACITY - 1); }
 
 static void *made(void *call) {
     (*(void (**)(void))call)();
@@ -87,6 +90,17 @@ int main(void) {
     for (size_t i = 1; i < CAPACITY; i += 2)
         ps_store_dec(&s, i, i);
     wrong |= judged("add that compacts", add, empty) | judged("compact", compact, empty);
+    /* a hold over the same memory, with as many adds as the floats have room for: the next one compacts and gives up the oldest */
+    h.store.memory = s.memory;
+    h.held_indices = held_indices;
+    h.held_labels = held_labels;
+    h.held_indices_len = h.held_labels_len = CAPACITY;
+    wrong |= judged("hold open", hold_open, empty);
+    for (size_t i = 0; i < CAPACITY; i++) {
+        row[0] = (float)i;
+        hold_add();
+    }
+    wrong |= judged("hold add that compacts", hold_add, empty) | judged("hold held", hold_held, empty);
     printf("%6d PS_STACK of the header\n", PS_STACK);
     return wrong;
 }

@@ -1,6 +1,6 @@
 /*
- * A fan loop: temperature readings go into a store of windows, counts of kept windows are moved from the oldest to the newest,
- * the store is compacted, and the windows that are left are printed.
+ * A fan loop: temperature readings go into a hold of the newest windows, which gives up the oldest by itself; its store is compacted,
+ * and the windows that are held are printed.
  */
 #include <inttypes.h>
 #include <stdio.h>
@@ -8,12 +8,12 @@
 
 #include "point_store.h"
 
-enum { DIMENSIONS = 4, SHINGLE_SIZE = 4, CAPACITY = 8, LABELS = 1, KEPT = 3 };
+enum { DIMENSIONS = 4, SHINGLE_SIZE = 4, CAPACITY = 8, LABELS = 1, WIDTH = 3 };
 
 /* Codes 0 to 23 say why a window was kept; the first ones are of class 0, 6 is of class 2. */
 enum { STEADY = 0, RISING = 6 };
 
-static unsigned char block[PS_MEMORY_BYTES(CAPACITY, DIMENSIONS, LABELS)];
+static unsigned char block[PS_HOLD_MEMORY_BYTES(CAPACITY, DIMENSIONS, LABELS)];
 
 static void accepted(uint64_t number, const char *call) {
     if (number != PS_OK) {
@@ -22,14 +22,15 @@ static void accepted(uint64_t number, const char *call) {
     }
 }
 
-static void print_windows(const struct ps_store *s) {
+static void print_held(const struct ps_hold *h) {
+    uint16_t held[WIDTH];
     float row[DIMENSIONS];
-    uint64_t count;
-    for (size_t i = 0; i < CAPACITY; i++) {
-        if (ps_store_count(s, i, &count) != PS_OK)
-            continue;
-        accepted(ps_store_copy(s, i, row, DIMENSIONS), "copy");
-        printf("  index %zu, count %" PRIu64 ":", i, count);
+    uint64_t number;
+    accepted(ps_store_hold_number(h, &number), "number");
+    accepted(ps_store_hold_held(h, held, (size_t)number), "held");
+    for (size_t i = 0; i < number; i++) {
+        accepted(ps_store_copy(&h->store, held[i], row, DIMENSIONS), "copy");
+        printf("  index %d:", held[i]);
         for (size_t k = 0; k < DIMENSIONS; k++)
             printf(" %.1f", (double)row[k]);
         printf("\n");
@@ -47,46 +48,37 @@ int main(void) {
         .internal_rotation = 0,
         .store_labels = LABELS,
     };
-    struct ps_store s;
-    struct ps_added kept[sizeof readings / sizeof readings[0]];
-    size_t live = 0, oldest = 0;
+    struct ps_hold h;
     uint64_t free_start, number;
 
     if (!ps_version_agrees()) {
         fprintf(stderr, "header and archive are of different versions\n");
         return 1;
     }
-    accepted(ps_memory_in(block, sizeof block, &shape, &s), "memory");
-    accepted(ps_store_open(&s, &shape), "open");
+    accepted(ps_hold_memory_in(block, sizeof block, &shape, &h), "memory");
+    accepted(ps_store_hold_open(&h, &shape, WIDTH), "open");
 
     for (size_t i = 0; i < sizeof readings / sizeof readings[0]; i++) {
         struct ps_added added = {0, 0, 0, 0, 0};
         size_t code = i > 0 && readings[i] - readings[i - 1] > 2.0f ? RISING : STEADY;
-        accepted(ps_store_add(&s, &readings[i], 1, code, &added), "add");
+        accepted(ps_store_hold_add(&h, &readings[i], 1, code, &added), "add");
         if (!added.kept) {
             printf("%.1f: the window fills\n", (double)readings[i]);
             continue;
         }
         printf("%.1f: index %" PRIu64 ", %s at place %" PRIu64 "\n", (double)readings[i], added.index,
             added.joined ? "joined" : "whole", added.place);
-        kept[live++] = added;
-        if (live - oldest > KEPT) {
-            /* the newest window counts once more, the oldest one goes */
-            struct ps_pair pair = {added.index, added.label_index, kept[oldest].index, kept[oldest].label_index};
-            accepted(ps_store_adjust(&s, &pair, 1, NULL), "adjust");
-            oldest++;
-        }
     }
 
-    accepted(ps_store_free_start(&s, &free_start), "free_start");
-    accepted(ps_store_live_number(&s, &number), "live_number");
-    printf("%" PRIu64 " windows, free start %" PRIu64 "\n", number, free_start);
-    accepted(ps_store_compact(&s), "compact");
-    accepted(ps_store_free_start(&s, &free_start), "free_start");
+    accepted(ps_store_free_start(&h.store, &free_start), "free_start");
+    accepted(ps_store_hold_number(&h, &number), "number");
+    printf("%" PRIu64 " windows held, free start %" PRIu64 "\n", number, free_start);
+    accepted(ps_store_compact(&h.store), "compact");
+    accepted(ps_store_free_start(&h.store, &free_start), "free_start");
     printf("compacted: free start %" PRIu64 "\n", free_start);
-    print_windows(&s);
+    print_held(&h);
 
-    number = ps_store_dec(&s, CAPACITY, PS_NONE);
-    printf("dec of index %d: refused with %" PRIu64 ", %s\n", CAPACITY, number, ps_refusal_text(number));
+    number = ps_store_hold_open(&h, &shape, CAPACITY);
+    printf("a hold as wide as its capacity: refused with %" PRIu64 ", %s\n", number, ps_refusal_text(number));
     return 0;
 }

@@ -243,6 +243,56 @@ static void labels(void) {
 }
 
 /* the picture, from left to right */
+static uint64_t hold_opened(struct ps_hold *h, size_t width) {
+    static unsigned char hold_block[PS_HOLD_MEMORY_BYTES(4, 1, 0)];
+    struct ps_shape shape = {1, 1, 4, 4, 0, 0, 0};
+    memset(hold_block, 0x5a, sizeof hold_block);
+    IS(ps_hold_memory_in(hold_block, sizeof hold_block, &shape, h), 0);
+    return ps_store_hold_open(h, &shape, width);
+}
+
+static uint64_t hold_add(struct ps_hold *h, float a, uint64_t index) {
+    uint64_t number = ps_store_hold_add(h, &a, 1, 0, &added);
+    if (number == PS_OK)
+        IS(added.index, index);
+    return number;
+}
+
+static void held_are(struct ps_hold *h, uint16_t first, uint16_t second) {
+    uint16_t held[2];
+    IS(ps_store_hold_held(h, held, 2), 0);
+    IS(held[0], first);
+    IS(held[1], second);
+    IS(ps_store_hold_held(h, held, 1), 3);
+    IS(ps_store_hold_number(h, &n), 0);
+    IS(n, 2);
+}
+
+static void hold(void) {
+    struct ps_hold h;
+    float two[2] = {40, 41};
+    IS(hold_opened(&h, 0), 15);
+    IS(hold_opened(&h, 4), 15);
+    IS(hold_opened(&h, 2), 0);
+    IS(hold_add(&h, 10, 0), 0);
+    IS(hold_add(&h, 20, 1), 0);
+    held_are(&h, 0, 1);
+    IS(hold_add(&h, 30, 2), 0);
+    held_are(&h, 1, 2);
+    IS(ps_store_hold_add(&h, two, 2, 0, &added), 3);
+    held_are(&h, 1, 2);
+    IS(hold_add(&h, 40, 0), 0);
+    held_are(&h, 2, 0);
+    IS(ps_store_copy(&h.store, 0, out, 1), 0);
+    IS(out[0] == 40.0f, 1);
+    IS(ps_store_count(&h.store, 1, &n), 5);
+    IS(ps_store_inc(&h.store, 2, PS_NONE), 0);
+    IS(hold_add(&h, 50, 1), 1);
+    IS(ps_store_dec(&h.store, 2, PS_NONE), 0);
+    IS(hold_add(&h, 50, 1), 0);
+    held_are(&h, 0, 1);
+}
+
 static void manager(void) {
     static const uint16_t last_starts[4] = {3, 0, 6, 2}, last_ends[4] = {4, 1, 7, 2};
     static const unsigned char used[6] = {3, 2, 1, 1, 2, 1};
@@ -284,6 +334,7 @@ int main(void) {
     readings(0);
     readings(1);
     labels();
+    hold();
     manager();
     printf("docs/STORE.md: %s\n", wrong == 0 && examples > 0 ? "every example is as it says" : "wrong");
     return wrong != 0;

@@ -48,6 +48,24 @@ pub enum Added {
     Waiting,
 }
 
+impl Added {
+    pub(crate) fn of(answer: &sys::AddAnswer) -> Added {
+        if answer.kept == 0 {
+            return Added::Waiting;
+        }
+        let place = answer.place as usize;
+        Added::Kept {
+            index: answer.index as usize,
+            label: answer.label_index as usize,
+            laid: if answer.joined == 0 {
+                Laid::Whole(place)
+            } else {
+                Laid::Joined(place)
+            },
+        }
+    }
+}
+
 /// One pair of an adjust: one count more for the first index and label index, one less for the second.
 /// [`NONE`] as the insert's index skips the pair, as the delete's index it leaves the delete out.
 #[repr(C)]
@@ -98,19 +116,7 @@ impl LentMemory<'_> {
     pub(crate) fn add(&mut self, point: &[f32], label: usize) -> Result<Added> {
         let mut answer = sys::AddAnswer::default();
         Refusal::of_number(sys::add(self, point, label, &mut answer))?;
-        if answer.kept == 0 {
-            return Ok(Added::Waiting);
-        }
-        let place = answer.place as usize;
-        Ok(Added::Kept {
-            index: answer.index as usize,
-            label: answer.label_index as usize,
-            laid: if answer.joined == 0 {
-                Laid::Whole(place)
-            } else {
-                Laid::Joined(place)
-            },
-        })
+        Ok(Added::of(&answer))
     }
 
     pub(crate) fn inc(&mut self, index: usize, label: usize) -> Result<()> {
@@ -136,7 +142,7 @@ impl LentMemory<'_> {
 }
 
 /// The number that a call of the library answers.
-fn number(call: impl FnOnce(&mut u64) -> u64) -> Result<usize> {
+pub(crate) fn number(call: impl FnOnce(&mut u64) -> u64) -> Result<usize> {
     let mut answer = 0;
     Refusal::of_number(call(&mut answer))?;
     Ok(answer as usize)
@@ -227,7 +233,7 @@ impl ReadMemory<'_> {
 /// ```
 #[derive(Debug)]
 pub struct LentPointStore<'a> {
-    memory: LentMemory<'a>,
+    pub(crate) memory: LentMemory<'a>,
 }
 
 impl<'a> LentPointStore<'a> {

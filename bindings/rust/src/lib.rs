@@ -2,8 +2,9 @@
 //!
 //! [`ProvedPointStore`] has the methods of the Rust original's trait [`PointStore`], in the same
 //! argument order and with the same return types. It owns its memory and lends it to the library for
-//! each call. A call answers, or refuses with a [`Refusal`]; none panics. [`LentPointStore`] has the
-//! same calls over memory that the caller lends, for `no_std` without an allocator, and
+//! each call. A call answers, or refuses with a [`Refusal`]; none panics. [`Hold`] is a store that
+//! keeps the newest points and gives up older ones by itself. [`LentPointStore`] and [`LentHold`] have
+//! the same calls over memory that the caller lends, for `no_std` without an allocator, and
 //! [`IntervalManager`] is the library's manager of free indices by itself.
 //!
 //! `docs/STORE.md` in the repository says what a store does: points and windows, places, growth,
@@ -31,7 +32,8 @@
 //! # }
 //! ```
 //!
-//! Features: `std` (on by default) and `alloc`, which [`ProvedPointStore`] and [`PointStore`] need.
+//! Features: `std` (on by default) and `alloc`, which [`ProvedPointStore`], [`Hold`] and
+//! [`PointStore`] need.
 //! The archive `libpoint_store_c.a` is taken from the folder that `POINT_STORE_LIB` names, from the
 //! repository's `target/staticlib`, or from where `pkg-config` finds it installed.
 #![warn(missing_docs)]
@@ -40,6 +42,7 @@
 #[cfg(feature = "alloc")]
 extern crate alloc;
 
+mod hold;
 mod lent;
 mod manager;
 mod memory;
@@ -51,6 +54,9 @@ mod shape;
 mod store;
 mod sys;
 
+#[cfg(feature = "alloc")]
+pub use hold::Hold;
+pub use hold::{LentHold, LentHoldMemory, HOLD_WORDS};
 pub use lent::{
     name_in, Added, Item, Laid, LentPointStore, Pair, MAX_ATTRIBUTES, NAME_BYTES, NONE,
 };

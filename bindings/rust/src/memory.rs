@@ -37,13 +37,20 @@ macro_rules! tables {
                 if block.len() < shape.block_words() {
                     return Err(Refusal::IllFormed);
                 }
-                let (words, mut _rest) = split_off(block, RECORD_WORDS);
+                Ok(LentMemory::front(block, shape, RECORD_WORDS).0)
+            }
+
+            /// A record of so many words and the tables at the front of a block that is long enough,
+            /// and the rest of it.
+            pub(crate) fn front(
+                block: &'a mut [u64],
+                shape: &Shape,
+                record_words: usize,
+            ) -> (LentMemory<'a>, &'a mut [u64]) {
+                let (words, rest) = split_off(block, record_words);
                 words.fill(0);
-                $(
-                    let ($name, rest) = split_off(_rest, shape.lengths().$length);
-                    _rest = rest;
-                )*
-                Ok(LentMemory { words, $($name),* })
+                $(let ($name, rest) = split_off(rest, shape.lengths().$length);)*
+                (LentMemory { words, $($name),* }, rest)
             }
 
             pub(crate) fn read(&self) -> ReadMemory<'_> {

@@ -6,7 +6,7 @@ use core::fmt;
 /// What a call answers: a value, or why it was refused.
 pub type Result<T> = core::result::Result<T, Refusal>;
 
-/// Why a call was refused: fourteen causes, in the order of their numbers. Later versions have more.
+/// Why a call was refused: fifteen causes, in the order of their numbers. Later versions have more.
 ///
 /// A refused call changes nothing, except that [`FloatSpaceFull`](Refusal::FloatSpaceFull) leaves
 /// the store compacted and grown, and that the pairs before an adjust's refused one stand.
@@ -24,9 +24,9 @@ pub type Result<T> = core::result::Result<T, Refusal>;
 #[derive(Clone, Copy, Debug, PartialEq, Eq, Hash)]
 #[non_exhaustive]
 pub enum Refusal {
-    /// 1: ill-formed store or manager, or a lent slice too short. No call of a
-    /// [`ProvedPointStore`](crate::ProvedPointStore) gives it: an opened store is well-formed,
-    /// every call keeps it so, and nothing else reaches its memory.
+    /// 1: ill-formed store, hold or manager, or a lent slice too short. No call of a
+    /// [`ProvedPointStore`](crate::ProvedPointStore) or a [`Hold`](crate::Hold) gives it: what is
+    /// opened is well-formed, every call keeps it so, and nothing else reaches its memory.
     IllFormed,
     /// 2: shape outside the bounds, on opening.
     Shape,
@@ -54,12 +54,14 @@ pub enum Refusal {
     ManagerCapacity,
     /// 14: release of an index free or not below the capacity; no call of a store gives it.
     NotReleasable,
+    /// 15: hold opened with a width of 0 or not below the capacity.
+    HoldWidth,
     /// A number that this version of the crate does not know, from a later library.
     Other(u64),
 }
 
-/// The causes with the numbers 1 to 14, in order.
-const CAUSES: [Refusal; 14] = [
+/// The causes with the numbers 1 to 15, in order.
+const CAUSES: [Refusal; 15] = [
     Refusal::IllFormed,
     Refusal::Shape,
     Refusal::Length,
@@ -74,13 +76,14 @@ const CAUSES: [Refusal; 14] = [
     Refusal::SequenceFull,
     Refusal::ManagerCapacity,
     Refusal::NotReleasable,
+    Refusal::HoldWidth,
 ];
 
-/// The texts of the numbers 0 to 14, and last that of every other number: the words of the C header's
+/// The texts of the numbers 0 to 15, and last that of every other number: the words of the C header's
 /// `ps_refusal_text`.
-const TEXTS: [&str; 16] = [
+const TEXTS: [&str; 17] = [
     "accepted",
-    "ill-formed store or manager, or a lent slice too short for its part",
+    "ill-formed store, hold or manager, or a lent slice too short for its part",
     "shape outside the bounds",
     "wrong length of a point or output slice",
     "label code above 23",
@@ -94,6 +97,7 @@ const TEXTS: [&str; 16] = [
     "sequence number at its limit",
     "manager capacity outside 1 to 1,024",
     "index free already, or not below the capacity",
+    "hold width of 0, or not below the capacity",
     "no refusal of this library",
 ];
 
@@ -119,7 +123,7 @@ impl Refusal {
     pub(crate) fn of_number(number: u64) -> Result<()> {
         match number {
             0 => Ok(()),
-            1..=14 => Err(CAUSES[number as usize - 1]),
+            1..=15 => Err(CAUSES[number as usize - 1]),
             _ => Err(Refusal::Other(number)),
         }
     }
@@ -169,7 +173,7 @@ mod tests {
     #[test]
     fn every_number_stands_for_its_cause() {
         assert_eq!(Refusal::of_number(0), Ok(()));
-        for number in 1..=14 {
+        for number in 1..=15 {
             let refusal = Refusal::of_number(number).unwrap_err();
             assert_eq!(refusal, CAUSES[number as usize - 1]);
             assert_eq!(refusal.number(), number);
@@ -178,9 +182,9 @@ mod tests {
 
     #[test]
     fn an_unknown_number_is_kept() {
-        let refusal = Refusal::of_number(15).unwrap_err();
-        assert_eq!(refusal, Refusal::Other(15));
-        assert_eq!(refusal.number(), 15);
+        let refusal = Refusal::of_number(16).unwrap_err();
+        assert_eq!(refusal, Refusal::Other(16));
+        assert_eq!(refusal.number(), 16);
         assert_eq!(Refusal::of_number(u64::MAX), Err(Refusal::Other(u64::MAX)));
     }
 
@@ -191,12 +195,12 @@ mod tests {
         let (texts, _) = texts.split_once("\n}\n").unwrap();
         let texts: Vec<&str> = texts.split('"').skip(1).step_by(2).collect();
         assert_eq!(texts, TEXTS);
-        for number in 1..=14 {
+        for number in 1..=15 {
             let refusal = Refusal::of_number(number).unwrap_err();
             assert_eq!(refusal.text(), texts[number as usize]);
         }
-        assert_eq!(Refusal::Other(15).text(), texts[15]);
-        assert_eq!(Refusal::Other(u64::MAX).text(), texts[15]);
+        assert_eq!(Refusal::Other(16).text(), texts[16]);
+        assert_eq!(Refusal::Other(u64::MAX).text(), texts[16]);
     }
 
     #[test]

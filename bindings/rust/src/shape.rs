@@ -1,5 +1,6 @@
 //! What a store is opened with.
 
+use crate::hold::{hold_block_words, LentHold, LentHoldMemory};
 use crate::lent::LentPointStore;
 use crate::memory::{block_words, Lengths, LentMemory};
 use crate::refusal::{Refusal, Result};
@@ -110,9 +111,49 @@ impl Shape {
         crate::store::ProvedPointStore::opened(self)
     }
 
+    /// Opens a hold of the newest `width` points, which owns its memory.
+    ///
+    /// ```
+    /// use point_store::{Refusal, Shape};
+    ///
+    /// let shape = Shape::new(4, 10);
+    /// assert!(shape.open_hold(9).is_ok());
+    /// assert_eq!(shape.open_hold(10).unwrap_err(), Refusal::HoldWidth);
+    /// assert_eq!(shape.open_hold(0).unwrap_err(), Refusal::HoldWidth);
+    /// ```
+    #[cfg(feature = "alloc")]
+    pub fn open_hold(&self, width: usize) -> Result<crate::hold::Hold> {
+        crate::hold::Hold::opened(self, width)
+    }
+
+    /// [`Refusal::Shape`] for a shape outside the bounds, then [`Refusal::HoldWidth`] for a width of 0
+    /// or not below the capacity.
+    pub fn check_hold(&self, width: usize) -> Result<()> {
+        // As for `check`.
+        match Refusal::of_number(sys::hold_open_nothing(self, width)) {
+            Err(Refusal::IllFormed) => Ok(()),
+            other => other,
+        }
+    }
+
+    /// How many words of 64 bits a block for [`LentHoldMemory::in_block`] has; 0 for a shape outside
+    /// the bounds.
+    pub fn hold_block_words(&self) -> usize {
+        self.check().map_or(0, |()| hold_block_words(self))
+    }
+
     /// Opens a store in lent memory.
     pub fn open_in<'a>(&self, memory: LentMemory<'a>) -> Result<LentPointStore<'a>> {
         LentPointStore::open(memory, self)
+    }
+
+    /// Opens a hold in lent memory.
+    pub fn open_hold_in<'a>(
+        &self,
+        memory: LentHoldMemory<'a>,
+        width: usize,
+    ) -> Result<LentHold<'a>> {
+        LentHold::open(memory, self, width)
     }
 
     /// For a shape within the bounds.

@@ -15,7 +15,7 @@ use alloc::vec::Vec;
 /// attribute is its class, 0 to 9. `docs/STORE.md` in the repository says what a store does.
 #[derive(Clone, Debug)]
 pub struct ProvedPointStore {
-    memory: Memory,
+    pub(crate) memory: Memory,
 }
 
 impl ProvedPointStore {

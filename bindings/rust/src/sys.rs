@@ -93,6 +93,34 @@ declare! { mut
     ps_dec(index: usize, label: usize);
     ps_adjust(pairs: *const [usize; 4], pairs_length: usize, pairs_before: &mut u64);
     ps_compact();
+    ps_hold_open(
+        held_indices: *const u16,
+        held_indices_length: usize,
+        held_labels: *const u16,
+        held_labels_length: usize,
+        dimensions: usize,
+        shingle_size: usize,
+        capacity: usize,
+        initial_capacity: usize,
+        internal_shingling: usize,
+        internal_rotation: usize,
+        store_labels: usize,
+        width: usize,
+    );
+    ps_hold_add(
+        held_indices: *mut u16,
+        held_indices_length: usize,
+        held_labels: *mut u16,
+        held_labels_length: usize,
+        point: *const u32,
+        point_length: usize,
+        label: usize,
+        kept: &mut u64,
+        index: &mut u64,
+        label_index: &mut u64,
+        joined: &mut u64,
+        place: &mut u64,
+    );
 }
 
 declare! { const
@@ -114,6 +142,21 @@ declare! { const
     ps_label(label: usize, code: &mut u64);
     ps_attribute(label: usize, class: &mut u64);
     ps_attribute_vec(label: usize, out: *mut f32, out_length: usize);
+    ps_hold_held(
+        held_indices: *const u16,
+        held_indices_length: usize,
+        held_labels: *const u16,
+        held_labels_length: usize,
+        out: *mut u16,
+        out_length: usize,
+    );
+    ps_hold_number(
+        held_indices: *const u16,
+        held_indices_length: usize,
+        held_labels: *const u16,
+        held_labels_length: usize,
+        number: &mut u64,
+    );
 }
 
 extern "C" {
@@ -462,9 +505,9 @@ pub fn name(out: &mut [u8], name_length: &mut u64) -> u64 {
     unsafe { ps_name(out.as_mut_ptr(), out.len(), name_length) }
 }
 
-/// An opening without memory: it can only be refused.
-pub fn open_nothing(shape: &Shape) -> u64 {
-    let mut none = LentMemory {
+/// No memory: an opening with it can only be refused.
+fn no_memory() -> LentMemory<'static> {
+    LentMemory {
         words: &mut [],
         store: &mut [],
         last_known_shingle: &mut [],
@@ -481,8 +524,114 @@ pub fn open_nothing(shape: &Shape) -> u64 {
         attribute_count: &mut [],
         attribute_starts: &mut [],
         attribute_ends: &mut [],
-    };
-    open(&mut none, shape)
+    }
+}
+
+/// An opening without memory.
+pub fn open_nothing(shape: &Shape) -> u64 {
+    open(&mut no_memory(), shape)
+}
+
+/// An opening of a hold without memory.
+pub fn hold_open_nothing(shape: &Shape, width: usize) -> u64 {
+    hold_open(&mut no_memory(), &[], &[], shape, width)
+}
+
+// SAFETY, of each of the hold's: its two tables are borrowed beside the memory, to be changed where
+// the library writes them, and so are output and answers.
+
+pub fn hold_open(
+    memory: &mut LentMemory<'_>,
+    held_indices: &[u16],
+    held_labels: &[u16],
+    shape: &Shape,
+    width: usize,
+) -> u64 {
+    unsafe {
+        change!(
+            ps_hold_open,
+            memory,
+            held_indices.as_ptr(),
+            held_indices.len(),
+            held_labels.as_ptr(),
+            held_labels.len(),
+            shape.dimensions,
+            shape.shingle_size,
+            shape.capacity,
+            shape.initial_capacity,
+            usize::from(shape.internal_shingling),
+            usize::from(shape.internal_rotation),
+            usize::from(shape.store_labels),
+            width
+        )
+    }
+}
+
+pub fn hold_add(
+    memory: &mut LentMemory<'_>,
+    held_indices: &mut [u16],
+    held_labels: &mut [u16],
+    point: &[f32],
+    label: usize,
+    answer: &mut AddAnswer,
+) -> u64 {
+    unsafe {
+        change!(
+            ps_hold_add,
+            memory,
+            held_indices.as_mut_ptr(),
+            held_indices.len(),
+            held_labels.as_mut_ptr(),
+            held_labels.len(),
+            point.as_ptr().cast(),
+            point.len(),
+            label,
+            &mut answer.kept,
+            &mut answer.index,
+            &mut answer.label_index,
+            &mut answer.joined,
+            &mut answer.place
+        )
+    }
+}
+
+pub fn hold_held(
+    memory: &ReadMemory<'_>,
+    held_indices: &[u16],
+    held_labels: &[u16],
+    out: &mut [u16],
+) -> u64 {
+    unsafe {
+        read!(
+            ps_hold_held,
+            memory,
+            held_indices.as_ptr(),
+            held_indices.len(),
+            held_labels.as_ptr(),
+            held_labels.len(),
+            out.as_mut_ptr(),
+            out.len()
+        )
+    }
+}
+
+pub fn hold_number(
+    memory: &ReadMemory<'_>,
+    held_indices: &[u16],
+    held_labels: &[u16],
+    number: &mut u64,
+) -> u64 {
+    unsafe {
+        read!(
+            ps_hold_number,
+            memory,
+            held_indices.as_ptr(),
+            held_indices.len(),
+            held_labels.as_ptr(),
+            held_labels.len(),
+            number
+        )
+    }
 }
 
 /// Calls a function of the manager that changes its record and a table, or both.

@@ -1,7 +1,11 @@
 pub mod Exported
 pub mod ExportedLaws
+pub mod ExportedHold
+pub mod ExportedHoldLaws
 pub mod ExportedStore
 pub mod ExportedStoreLaws
+pub mod HoldRecordLaws
+pub mod HoldRecords
 pub mod Naming
 pub mod RecordLaws
 pub mod Records

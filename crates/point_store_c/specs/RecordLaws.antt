@@ -3,7 +3,7 @@ use Prim.Native.Nat.{ℕ, zero, suc, _≤_, _<_}
 use native.Mathlib.Omega.{arith}
 use mathlib.Core.Bool.{Bool, true, false, cond, _&&_}
 use mathlib.Core.List.{List, [], _∷_, _++_}
-use mathlib.Core.Path.{_≡_, refl}
+use mathlib.Core.Path.{_≡_, refl, ap, _∙_}
 use lib.Dec.{leb, ltb, eqb}
 use lib.ListN.{length, getD, drop}
 use lib.Seq.{sets, sets-eq, set-getD}
@@ -54,10 +54,13 @@ written-legal s rest q =
 written-read : (s : Store) (rest : List ℕ) → storeRead (storeWords s ++ rest) ≡ s
 written-read s rest = rw (flag-back (s .«internal_shingling»), flag-back (s .«internal_rotation»), flag-back (s .«store_labels»))
 
+pub written-in : (s : Store) (rest : List ℕ) → s .«next_sequence_index» < 4294967296 → storeIn (storeWords s ++ rest) ≡ s
+unfolding storeIn
+written-in s rest q = rw (written-legal s rest q) (written-read s rest)
+
 -- a store written to a record that is long enough is read again
 pub in-out : (words : List ℕ) (s : Store) → 15 ≤ length words → s .«next_sequence_index» < 4294967296 → storeIn (storeOut words s) ≡ s
-unfolding storeIn
-in-out words s l q = rw (out-words words s l, written-legal s (drop 15 words) q) (written-read s (drop 15 words))
+in-out words s l q = ap storeIn (out-words words s l) ∙ written-in s (drop 15 words) q
 
 -- what the code's tests show
 pub short-illegal : (words : List ℕ) → length words < 15 → false ≡ legalRecord words

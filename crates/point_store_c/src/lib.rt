@@ -4,6 +4,8 @@
 // document 01 says: what an add refused with 10 made of the floats, the pairs before an adjust's refused one, and their number.
 mod answers;
 mod counts;
+mod hold_calls;
+mod hold_record;
 mod label_readings;
 mod manager;
 mod name;

@@ -16,7 +16,7 @@ use terms::Refusal;
 use terms::refusal_number;
 
 // What a flag above 1 stands for: a shape of zeros, which is outside the bounds.
-fn shape_in(
+pub fn shape_in(
     dimensions: usize,
     shingle_size: usize,
     capacity: usize,

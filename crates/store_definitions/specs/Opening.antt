@@ -1,6 +1,6 @@
 -- Document 01, 'Opening'.
 use Prim.Native.Nat.{ℕ, _*_, _-_}
-use mathlib.Core.Bool.{false, cond, _&&_}
+use mathlib.Core.Bool.{Bool, false, cond, _&&_}
 use mathlib.Core.List.{List, _++_}
 use lib.ListN.{drop, replicate, set}
 use Rattle.interval_store_manager.specs.Calls.{Decided, go, refuse, manager}
@@ -13,10 +13,15 @@ use Rattle.store_definitions.specs.Bounds.{boundsHold, startAllowed, len
 use Rattle.store_definitions.specs.Parts.{labelHalf, withLabels}
 use Rattle.store_definitions.specs.Decisions.{carriedOut}
 
+-- 2: the shape within the bounds
+abbrev pub shapeAllowed : Shape → Bool
+shapeAllowed h =
+    boundsHold (h .dimensions) (h .«shingle_size») (h .capacity) && startAllowed (h .«initial_capacity») (h .capacity)
+
 -- 'Opening checks 2, 1.'
 unfoldable pub openDecided : {E : Type 0} → Shape → Memory E → Decided
 openDecided h m =
-    cond (boundsHold (h .dimensions) (h .«shingle_size») (h .capacity) && startAllowed (h .«initial_capacity») (h .capacity))
+    cond (shapeAllowed h)
     (cond (lentEnough (h .dimensions) (h .capacity) (h .«store_labels») m) go (refuse 1))
     (refuse 2)
 

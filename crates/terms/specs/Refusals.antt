@@ -1,7 +1,7 @@
 -- Document 01, 'Refused calls': the number of each cause. The one place where they are written.
 use Prim.Native.Nat.{ℕ}
 use Rattle.terms.specs.declared.Refusal.{Refusal}
-use Rattle.terms.specs.declared.Refusal.the-variants.{IllFormed, Shape, Length, LabelCode, PointNotInUse, LabelNotInUse, CountFull, LabelsFull, PointsFull, FloatSpaceFull, ValueTooLarge, SequenceFull, ManagerCapacity, NotReleasable}
+use Rattle.terms.specs.declared.Refusal.the-variants.{IllFormed, Shape, Length, LabelCode, PointNotInUse, LabelNotInUse, CountFull, LabelsFull, PointsFull, FloatSpaceFull, ValueTooLarge, SequenceFull, ManagerCapacity, NotReleasable, HoldWidth}
 
 abbrev pub number : Refusal → ℕ
 -- ill-formed store or manager, or a lent slice too short for its part
@@ -32,3 +32,5 @@ number SequenceFull = 12
 number ManagerCapacity = 13
 -- release of an index free or not below capacity
 number NotReleasable = 14
+-- a hold opened with a width of 0 or not below capacity
+number HoldWidth = 15

@@ -19,6 +19,7 @@ pub enum Refusal {
     SequenceFull,
     ManagerCapacity,
     NotReleasable,
+    HoldWidth,
 }
 
 // The index of a point. A tuple struct of its own, so that a label's index cannot stand in its place.
@@ -57,5 +58,6 @@ pub fn refusal_number(r: Refusal) -> u64
         Refusal::SequenceFull => 12,
         Refusal::ManagerCapacity => 13,
         Refusal::NotReleasable => 14,
+        Refusal::HoldWidth => 15,
     }
 }

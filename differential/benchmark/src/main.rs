@@ -32,7 +32,7 @@ fn main() {
             rows.extend(measured::rows(capacity, labels));
         }
     }
-    let order: Vec<&str> = rows.iter().take(8).map(|row| row.what).collect();
+    let order: Vec<&str> = rows.iter().take(9).map(|row| row.what).collect();
     rows.sort_by_key(|row| order.iter().position(|what| *what == row.what));
     print(&rows);
     std::fs::write(&path, chart::drawn(&rows)).expect(&path);

@@ -50,6 +50,35 @@ fn steady(capacity: usize, labels: bool) -> (f64, f64) {
     )
 }
 
+/// A hold add with the list full, beside the Rust's add and its dec of the oldest.
+fn hold_add(capacity: usize, labels: bool) -> (f64, f64) {
+    let width = capacity * 3 / 4;
+    let filled = Sides::filled(capacity, labels, width);
+    let live: VecDeque<(usize, usize)> = filled.live.iter().copied().collect();
+    let hold = filled_hold(capacity, labels, width);
+    let points: Vec<[f32; BASE]> = (0..TURNS).map(|k| point(capacity + k)).collect();
+    let as_words: Vec<Vec<u32>> = points.iter().map(|p| words(p)).collect();
+    both(
+        TURNS,
+        || (hold.clone(), (filled.rust.clone(), live.clone())),
+        |hold| {
+            for (k, point) in as_words.iter().enumerate() {
+                let mut a = nothing_added();
+                taken(hold.add(point, k % 24, &mut a));
+                black_box(a);
+            }
+        },
+        |(rust, live)| {
+            for (k, point) in points.iter().enumerate() {
+                let (index, label, _) = rust.add(point, Code((k % 24) as u8)).expect("an add");
+                live.push_back((index, label));
+                let (index, label) = live.pop_front().expect("a live point");
+                rust.dec(index, label).expect("a dec");
+            }
+        },
+    )
+}
+
 fn inc_and_dec(full: &Sides) -> (f64, f64) {
     let pairs: Vec<(usize, usize)> = (0..TURNS).map(|k| full.live[k % full.live.len()]).collect();
     both(
@@ -202,6 +231,7 @@ pub fn rows(capacity: usize, labels: bool) -> Vec<Row> {
     };
     vec![
         row("add and dec", steady(capacity, labels)),
+        row("hold add, to add and dec", hold_add(capacity, labels)),
         row("inc and dec", inc_and_dec(&full)),
         row("copy", copy(&full)),
         row("is_equal", is_equal(&full)),

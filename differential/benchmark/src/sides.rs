@@ -1,4 +1,5 @@
 //! A store on both sides, after the same calls. Dimensions 16, shingle size 4, internal shingling, no rotation.
+use library::hold::LentHold;
 use library::store::{Added, Lent, Opening};
 use reference::pointstore::PointStore;
 use reference::reasons::Code;
@@ -64,6 +65,30 @@ pub fn lent(capacity: usize, labels: bool) -> Lent {
         attribute_starts: vec![0; tables],
         attribute_ends: vec![0; tables],
     }
+}
+
+/// A hold of this width, after the adds of `Sides::filled` at as many live points.
+pub fn filled_hold(capacity: usize, labels: bool, width: usize) -> LentHold {
+    let mut hold = LentHold {
+        store: lent(capacity, labels),
+        held_indices: vec![0; capacity],
+        held_labels: vec![0; if labels { capacity } else { 0 }],
+    };
+    hold.store.words.resize(17, 0);
+    assert_eq!(hold.open(opening(capacity, labels), width), 0, "opening");
+    let mut held = 0;
+    for k in 0.. {
+        assert_eq!(hold.number(&mut held), 0, "the number held");
+        if held == width as u64 {
+            break;
+        }
+        assert_eq!(
+            hold.add(&words(&point(k)), k % 24, &mut nothing_added()),
+            0,
+            "a hold add"
+        );
+    }
+    hold
 }
 
 /// The k-th point: readings of a slow wave.

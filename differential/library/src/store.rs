@@ -100,6 +100,7 @@ macro_rules! prototypes {
         }
     };
 }
+pub(crate) use prototypes;
 
 prototypes! {
     ps_open(
@@ -197,6 +198,7 @@ macro_rules! lend {
         }
     };
 }
+pub(crate) use lend;
 
 impl Lent {
     pub fn open(&mut self, o: Opening) -> u64 {

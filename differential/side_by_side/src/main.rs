@@ -1,6 +1,7 @@
 //! Drives the unchanged Rust and the proved library side by side, holds refusals to a plain model of document 01, and
 //! prints what was covered. Exits with 1 at a difference, and where a kind was never met.
 mod coverage;
+mod hold;
 mod manager;
 mod mutant;
 mod store;
@@ -15,6 +16,9 @@ fn parts() -> Result<(), String> {
     }
     if mutant::is_none_but(&mutant::OF_THE_STORE) {
         store::run()?;
+    }
+    if mutant::is_none_but(&mutant::OF_THE_HOLD) {
+        hold::run()?;
     }
     Ok(())
 }

@@ -63,11 +63,31 @@ pub const OF_THE_STORE: [&str; 38] = [
     "both-lose-the-sign-of-a-copied-zero",
 ];
 
+/// Sown in the hold's part.
+pub const OF_THE_HOLD: [&str; 12] = [
+    "hold-gives-up-before-the-add",
+    "hold-gives-up-the-newest",
+    "hold-gives-up-on-waiting",
+    "hold-takes-the-width-of-the-capacity",
+    "hold-takes-a-count-of-2",
+    "hold-takes-a-point-twice",
+    "hold-takes-a-label-twice",
+    "hold-refuses-1-before-15",
+    "harness-never-gives-up",
+    "harness-leaves-the-rust-out-of-the-hold",
+    "both-hold-in-another-order",
+    "both-clear-the-floats-of-a-point-given-up",
+];
+
 fn sown() -> Option<&'static str> {
     static SOWN: OnceLock<Option<&'static str>> = OnceLock::new();
     *SOWN.get_or_init(|| {
         let name = env::var("MUTANT").ok()?;
-        let known = OF_THE_MANAGER.iter().chain(&OF_THE_STORE).find(|m| **m == name);
+        let known = OF_THE_MANAGER
+            .iter()
+            .chain(&OF_THE_STORE)
+            .chain(&OF_THE_HOLD)
+            .find(|m| **m == name);
         Some(*known.unwrap_or_else(|| panic!("no mutant {name}")))
     })
 }

@@ -1,27 +1,27 @@
 //! The store.
 mod beyond;
-mod breaking;
-mod call;
+pub mod breaking;
+pub mod call;
 mod differs;
-mod guess;
-mod kinds;
-mod lent;
-mod library_side;
+pub mod guess;
+pub mod kinds;
+pub mod lent;
+pub mod library_side;
 mod limits;
 mod lists;
-mod made_up;
-mod memory;
-mod model;
+pub mod made_up;
+pub mod memory;
+pub mod model;
 mod model_readings;
-mod model_rows;
+pub mod model_rows;
 mod name;
 mod recorded;
 mod refused_pairs;
-mod rust_side;
+pub mod rust_side;
 mod short_lists;
-mod sides;
+pub mod sides;
 mod small_starts;
-mod well_formed;
+pub mod well_formed;
 
 use crate::coverage::Coverage;
 use std::sync::atomic::{AtomicUsize, Ordering};
@@ -29,7 +29,7 @@ use std::sync::Mutex;
 use std::thread;
 
 /// What the Rust does with a call that is refused here.
-const REFUSED: [&str; 3] = [
+pub const REFUSED: [&str; 3] = [
     "refused here, an error in the Rust",
     "refused here, a panic in the Rust",
     "refused here, taken by the Rust",
@@ -48,7 +48,7 @@ fn counts(title: &'static str, owed: &[&[&'static str]]) -> Coverage {
 }
 
 /// How many of a hundred calls are made of those that a full run makes: `SHARE`, 100 where it is not set.
-fn share(calls: u64) -> u64 {
+pub fn share(calls: u64) -> u64 {
     let percent = std::env::var("SHARE").map_or(100, |s| s.parse().expect("SHARE is a number"));
     calls * percent / 100
 }
@@ -167,7 +167,7 @@ fn rubbish() -> Result<Coverage, String> {
     Ok(coverage)
 }
 
-type Part = fn() -> Result<Coverage, String>;
+pub type Part = fn() -> Result<Coverage, String>;
 
 /// The random lists come last, in four parts under one title.
 const PARTS: [Part; 14] = [
@@ -188,16 +188,16 @@ const PARTS: [Part; 14] = [
 ];
 
 /// Runs the parts on two threads; what each covered, in their order. After an error no other part is begun.
-fn run_parts() -> Result<Vec<Coverage>, String> {
+pub fn run_parts(parts: &[Part]) -> Result<Vec<Coverage>, String> {
     let next = AtomicUsize::new(0);
     let done: Mutex<Vec<(usize, Coverage)>> = Mutex::new(Vec::new());
     let work = || -> Result<(), String> {
         loop {
             let k = next.fetch_add(1, Ordering::SeqCst);
-            let Some(part) = PARTS.get(k) else {
+            let Some(part) = parts.get(k) else {
                 return Ok(());
             };
-            let coverage = part().inspect_err(|_| next.store(PARTS.len(), Ordering::SeqCst))?;
+            let coverage = part().inspect_err(|_| next.store(parts.len(), Ordering::SeqCst))?;
             done.lock().expect("no other thread panics with it").push((k, coverage));
         }
     };
@@ -213,7 +213,7 @@ fn run_parts() -> Result<Vec<Coverage>, String> {
 
 /// Runs everything, printing what each part covered.
 pub fn run() -> Result<(), String> {
-    let mut parts = run_parts()?;
+    let mut parts = run_parts(&PARTS)?;
     let rest = parts.split_off(PARTS.len() - 3);
     let random = parts.last_mut().expect("the first part of the random lists");
     rest.into_iter().for_each(|more| random.merge(more));

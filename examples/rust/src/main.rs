@@ -1,5 +1,6 @@
-//! A fan loop over the proved point store. It keeps the latest windows of temperature readings and,
-//! for the service report, the hot ones. It is run on a short series that stands for the probes.
+//! A fan loop over the proved point store. A hold keeps the latest windows of temperature readings, and
+//! a store of its own the hot ones, for the service report. It is run on a short series that stands for
+//! the probes.
 //!
 //! At the root of the repository:
 //!
@@ -8,7 +9,7 @@
 //!
 //! The file 'stdout' is what it prints.
 
-use point_store::{Added, Laid, PointStore, ProvedPointStore, Result, NONE};
+use point_store::{Added, Hold, Laid, PointStore, ProvedPointStore, Result, Shape};
 
 /// A reading: the lamp's and the board's temperature in degrees, and the reason code.
 type Reading = ([f32; 2], usize);
@@ -28,8 +29,10 @@ const SERIES: [Reading; 9] = [
 /// A window is three readings of two temperatures.
 const READING: usize = 2;
 const SHINGLE_SIZE: usize = 3;
-const CAPACITY: usize = 16;
-const INITIAL_CAPACITY: usize = 5;
+const WINDOW: Shape = Shape::new(READING * SHINGLE_SIZE, 16)
+    .shingle_size(SHINGLE_SIZE)
+    .initial_capacity(5)
+    .labels(true);
 
 /// How many windows the loop itself looks back on.
 const LATEST: usize = 3;
@@ -38,39 +41,38 @@ const LATEST: usize = 3;
 const HOT: f32 = 55.0;
 
 /// A window's index and label index.
-type Held = (usize, usize);
+type Kept = (usize, usize);
 
 fn main() -> Result<()> {
-    let mut store = ProvedPointStore::builder(READING * SHINGLE_SIZE, CAPACITY)
-        .shingle_size(SHINGLE_SIZE)
-        .initial_capacity(INITIAL_CAPACITY)
-        .internal_shingling(true)
-        .labels(true)
-        .open()?;
+    // The hold forms the windows out of readings; the report is handed whole ones.
+    let mut latest = WINDOW.internal_shingling(true).open_hold(LATEST)?;
+    let mut report = WINDOW.open()?;
     println!("{}", ProvedPointStore::name());
-    let mut latest = Vec::new();
-    let mut report = Vec::new();
+    let mut hot = Vec::new();
     for (temperatures, reason) in SERIES {
         print!("{:?}: ", temperatures);
-        match store.add_laid(&temperatures, reason)? {
+        match latest.add(&temperatures, reason)? {
             Added::Waiting => println!("waiting for a full window"),
-            Added::Kept { index, label, laid } => {
-                let lamp = mean_of_lamp(&store.copy(index)?);
+            Added::Kept { index, laid, .. } => {
+                let window = latest.store().copy(index)?;
+                let lamp = mean_of_lamp(&window);
                 println!("fan at {}%, {}", fan_speed(lamp), laid_text(index, laid));
-                latest.push((index, label));
-                hold(&mut store, lamp, &mut latest, &mut report)?;
+                if lamp >= HOT {
+                    let (index, label, _) = report.add(&window, reason)?;
+                    hot.push((index, label));
+                }
             }
         }
     }
-    let before = store.free_start()?;
-    store.compact()?;
+    let before = latest.store().free_start()?;
+    latest.compact()?;
     println!(
         "compacted from {} floats to {}",
         before,
-        store.free_start()?
+        latest.store().free_start()?
     );
-    print_windows(&store, "latest", &latest)?;
-    print_windows(&store, "report", &report)
+    print_latest(&latest)?;
+    print_report(&report, &hot)
 }
 
 fn mean_of_lamp(window: &[f32]) -> f32 {
@@ -89,39 +91,22 @@ fn laid_text(index: usize, laid: Laid) -> String {
     }
 }
 
-/// The newest window gets a count more if it is hot: the report's. The oldest gives the loop's count
-/// back once more than the latest are held, and is free then unless the report has it.
-fn hold(
-    store: &mut ProvedPointStore,
-    lamp: f32,
-    latest: &mut Vec<Held>,
-    report: &mut Vec<Held>,
-) -> Result<()> {
-    let newest = latest[latest.len() - 1];
-    let oldest = if latest.len() > LATEST {
-        latest.remove(0)
-    } else {
-        (NONE, NONE)
-    };
-    if lamp >= HOT {
-        report.push(newest);
-        return store.adjust_count(&[(newest, oldest)]);
-    }
-    if oldest.0 != NONE {
-        store.dec(oldest.0, oldest.1)?;
+fn print_latest(latest: &Hold) -> Result<()> {
+    println!("latest:");
+    for index in latest.held()? {
+        println!("  index {index}: {:?}", latest.store().copy(index)?);
     }
     Ok(())
 }
 
-fn print_windows(store: &ProvedPointStore, title: &str, windows: &[Held]) -> Result<()> {
-    println!("{title}:");
-    for &(index, label) in windows {
+fn print_report(report: &ProvedPointStore, hot: &[Kept]) -> Result<()> {
+    println!("report:");
+    for &(index, label) in hot {
         println!(
-            "  index {index}, count {}, reason {} of class {}: {:?}",
-            store.count(index)?,
-            store.label(label)?,
-            store.attribute(label)?,
-            store.copy(index)?
+            "  index {index}, reason {} of class {}: {:?}",
+            report.label(label)?,
+            report.attribute(label)?,
+            report.copy(index)?
         );
     }
     Ok(())

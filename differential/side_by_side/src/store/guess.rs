@@ -169,7 +169,7 @@ fn overlapping(m: &Lent, taste: Taste, random: &mut Random) -> Vec<u32> {
     point
 }
 
-fn add(m: &Lent, taste: Taste, refused: bool, random: &mut Random) -> Call {
+pub fn add(m: &Lent, taste: Taste, refused: bool, random: &mut Random) -> Call {
     let s = shape(m);
     let n = if s.shingling { s.base } else { s.dimensions };
     let mut label = random.below(24);

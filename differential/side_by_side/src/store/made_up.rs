@@ -6,7 +6,7 @@ use library::store::{Lent, Opening};
 use random::Random;
 use reference::reasons::CLASSES;
 
-fn shuffle<T>(list: &mut [T], random: &mut Random) {
+pub fn shuffle<T>(list: &mut [T], random: &mut Random) {
     for k in (1..list.len()).rev() {
         list.swap(k, random.below(k + 1));
     }

@@ -136,7 +136,7 @@ impl Sides {
                 &made
             }
             _ => {
-                let goes_on = self.refused_in_rust(call, got.value, &rust, coverage)?;
+                let goes_on = refused_in_rust(call, got.value, &self.before, &rust, coverage)?;
                 self.rust = goes_on.then_some(rust);
                 return Ok(());
             }
@@ -165,32 +165,38 @@ impl Sides {
         Ok(())
     }
 
-    /// A call that document 01 refuses is tried on a copy of the Rust, which is then dropped: it keeps partial changes. After
-    /// 10 there is nothing to go on with.
-    fn refused_in_rust(&self, call: &Call, number: u64, rust: &Store, coverage: &mut Coverage) -> Result<bool, String> {
-        let outcome = rust_side::made(call, shape(&self.before), &mut rust.clone());
-        let owed = owed_by_rust(call, number, &self.before);
-        let (got, kind) = match outcome {
-            Outcome::Answered(_) => (Owed::Takes, "refused here, taken by the Rust"),
-            Outcome::Error => (Owed::Error, "refused here, an error in the Rust"),
-            Outcome::Panic => (Owed::Panic, "refused here, a panic in the Rust"),
-        };
-        if owed != Owed::Any && owed != got && !(owed == Owed::ErrorOrPanic && got != Owed::Takes) {
-            return Err(format!(
-                "refusal {number}: the Rust's answer is {got:?}, not {owed:?}: {call:?}\n    on {:?}",
-                self.before
-            ));
-        }
-        coverage.meet(kind);
-        Ok(number != 10)
-    }
-
     fn told(&self, call: &Call, a: &str, got: &Returned, left: &Lent, b: &str, owed: &Returned) -> String {
         format!(
             "{call:?}\n    on {:?}\n{a}: {got:?}\n    leaves {left:?}\n{b}: {owed:?}\n    document 01 leaves {:?}",
             self.before, self.model
         )
     }
+}
+
+/// A call that document 01 refuses is tried on a copy of the Rust, which is then dropped: it keeps partial changes. After
+/// 10 there is nothing to go on with.
+pub fn refused_in_rust(
+    call: &Call,
+    number: u64,
+    before: &Lent,
+    rust: &Store,
+    coverage: &mut Coverage,
+) -> Result<bool, String> {
+    let outcome = rust_side::made(call, shape(before), &mut rust.clone());
+    let owed = owed_by_rust(call, number, before);
+    let (got, kind) = match outcome {
+        Outcome::Answered(_) => (Owed::Takes, "refused here, taken by the Rust"),
+        Outcome::Error => (Owed::Error, "refused here, an error in the Rust"),
+        Outcome::Panic => (Owed::Panic, "refused here, a panic in the Rust"),
+    };
+    if owed != Owed::Any && owed != got && !(owed == Owed::ErrorOrPanic && got != Owed::Takes) {
+        return Err(format!(
+            "refusal {number}: the Rust's answer is {got:?}, not {owed:?}: {call:?}\n    on {:?}",
+            before
+        ));
+    }
+    coverage.meet(kind);
+    Ok(number != 10)
 }
 
 /// What an answer shows.

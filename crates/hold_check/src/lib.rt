@@ -1,0 +1,9 @@
+// The well-formedness check of a hold: its store's, and one linear pass over its list with local marks. The readings of a hold,
+// which need nothing else.
+mod check;
+mod list;
+mod read;
+
+pub use check::check_hold;
+pub use read::held;
+pub use read::held_number;

@@ -1,0 +1,16 @@
+pub mod Memory
+pub mod Answers
+pub mod Listed
+pub mod WellFormed
+pub mod Opening
+pub mod Adding
+pub mod Readings
+pub mod Lent
+pub mod CountsAfter
+pub mod Sound
+pub mod ReadingLaws
+pub mod NamesLaws
+pub mod AddingLaws
+pub mod OpeningLaws
+pub mod Cases
+pub mod EachClause
