@@ -21,4 +21,5 @@ pub mod LayingLaws
 pub mod InPlace
 pub mod Scanned
 pub mod NoLater
+pub mod EachStep
 pub mod Windows

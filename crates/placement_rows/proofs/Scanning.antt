@@ -18,7 +18,7 @@ use Rattle.placement.specs.Scanned.{ScanState, scanned, shown, advanced, Bounde
 use Rattle.placement.specs.Steps.{steps}
 use Rattle.placement_rows.specs.Compactable.{layout}
 use Rattle.placement_rows.specs.IndexTable.{found-none, found-live, found-at}
-use Rattle.placement_rows.specs.OnePass.{scan, runOf, met, Copyable, Scannable}
+use Rattle.placement_rows.specs.OnePass.{scan, runFrom, runOf, met, Ready, Copyable, Scannable}
 use Rattle.placement_rows.specs.declared.one_pass.Progress.{Progress}
 use Rattle.placement_rows.specs.declared.one_pass.Run.{Run}
 
@@ -30,7 +30,7 @@ module _ (dims base : ℕ) (rotation : Bool) (elements location table : List ℕ
   well = pre .compactable .well
 
   -- before the first turn, and after the last
-  pub scan-first : scan elements location (record { free = 0; read = 0 }) ≡ at 0
+  pub scan-first : scan elements location (record { free = 0; read = 0; «free_place» = 0; «read_place» = 0 }) ≡ at 0
   scan-first = sym (scanned-first 0 dims base rotation elements location)
 
   pub scan-last : (e l : List ℕ) (p : Progress) → scan e l p ≡ at (free / base) → layout e l (p .free) ≡ compacted 0 dims base rotation elements location free
@@ -65,10 +65,16 @@ module _ (dims base : ℕ) (rotation : Bool) (elements location table : List ℕ
         there = found-at location table (pre .indexed) q listed d
 
         abbrev joined : Run
-        joined = record { zeros = 0; from = at q .read }
+        joined = runFrom dims base q (at q .free) 0 (at q .read)
 
         abbrev started : Run
-        started = record { zeros = zerosBefore rotation dims (at q .free) (q * base); from = q * base }
+        started = runFrom dims base q (at q .free) (zerosBefore rotation dims (at q .free) (q * base)) (q * base)
+
+        bounded : Bounded 0 dims base rotation elements location free well q
+        bounded = scanned-bounded 0 dims base rotation elements location free well q (le-of-lt inside)
+
+        ends : q * base + dims ≤ free
+        ends = met-inside 0 dims base rotation elements location free well q i live there
 
         -- the words that are read on from reach back to the point's start
         enough : q * base ≤ at q .read → dims ≤ at q .free + (q * base + dims - at q .read)
@@ -77,40 +83,48 @@ module _ (dims base : ℕ) (rotation : Bool) (elements location table : List ℕ
             let s : Sound dims base rotation elements free (liveBelow location q) q (steps 0 dims base rotation elements (liveBelow location q)) = well-sound 0 dims base rotation elements location free well q (le-of-lt inside) in
             omega (arith, s .last-next, s .last-free)
 
+        ready : Ready dims base q (at q .free) (at q .read)
+        ready =
+            record {
+              some = well .shaped .some;
+              some-base = well .shaped .some-base;
+              small = omega (arith, ends, well .small);
+              written = omega (arith, bounded .behind, bounded .inside, well .small);
+              enough = λ k. omega (arith, enough k, within);
+              within = λ k. within;
+            }
+          where
+            within : at q .read ≤ q * base + dims
+            within = omega (arith, joins-within 0 dims base rotation elements location free well q i live there)
+
         copyable : Copyable dims base (runOf dims base rotation q (at q .free) (at q .read)) (q * base + dims) i (at q .free) (length (at q .elements)) (length (at q .location))
         unfolding runOf
         copyable = go (leb (q * base) (at q .read)) refl
           where
-            bounded : Bounded 0 dims base rotation elements location free well q
-            bounded = scanned-bounded 0 dims base rotation elements location free well q (le-of-lt inside)
-
-            ends : q * base + dims ≤ free
-            ends = met-inside 0 dims base rotation elements location free well q i live there
-
-            of : (run : Run) → at q .free + run .zeros ≤ run .from → run .from ≤ q * base + dims → dims ≤ at q .free + run .zeros + (q * base + dims - run .from)
-                → Copyable dims base run (q * base + dims) i (at q .free) (length (at q .elements)) (length (at q .location))
-            of run a b c =
+            of : (zeros from : ℕ) → at q .free + zeros ≤ from → from ≤ q * base + dims → dims ≤ at q .free + zeros + (q * base + dims - from)
+                → Copyable dims base (runFrom dims base q (at q .free) zeros from) (q * base + dims) i (at q .free) (length (at q .elements)) (length (at q .location))
+            of zeros from a b c =
                 record {
-                  some-base = well .shaped .some-base;
                   behind = a;
                   forward = b;
                   ends = omega (arith, ends, well .inside, bounded .elements-kept);
-                  small = omega (arith, ends, well .small);
+                  small = ready .small;
                   enough = c;
+                  placed = refl;
                   listed = omega (arith, live .listed, bounded .indices-kept);
                 }
 
             go : (t : Bool) → leb (q * base) (at q .read) ≡ t → Copyable dims base (cond t joined started) (q * base + dims) i (at q .free) (length (at q .elements)) (length (at q .location))
             go true k =
-                of joined (omega (arith, bounded .behind))
-                (omega (arith, joins-within 0 dims base rotation elements location free well q i live there))
-                (omega (arith, enough (leb-true (q * base) (at q .read) k)))
+                let joins = leb-true (q * base) (at q .read) k in
+                of 0 (at q .read) (omega (arith, bounded .behind)) (ready .within joins) (omega (arith, enough joins))
             go false k =
-                of started (starts-behind 0 dims base rotation elements location free well q i live there (leb-false (q * base) (at q .read) k)) (omega arith) (omega arith)
+                of (zerosBefore rotation dims (at q .free) (q * base)) (q * base)
+                (starts-behind 0 dims base rotation elements location free well q i live there (leb-false (q * base) (at q .read) k)) (omega arith) (omega arith)
 
-        pub can-take : (0 < dims) × Copyable dims base (runOf dims base rotation q (p .free) (p .read)) (q * base + dims) i (p .free) (length e) (length l)
+        pub can-take : Ready dims base q (p .free) (p .read) × Copyable dims base (runOf dims base rotation q (p .free) (p .read)) (q * base + dims) i (p .free) (length e) (length l)
         can-take =
-            (well .shaped .some, subst (λ (t : ScanState ℕ). Copyable dims base (runOf dims base rotation q (t .free) (t .read)) (q * base + dims) i (t .free) (length (t .elements)) (length (t .location))) (sym h) copyable)
+            subst (λ (t : ScanState ℕ). Ready dims base q (t .free) (t .read) × Copyable dims base (runOf dims base rotation q (t .free) (t .read)) (q * base + dims) i (t .free) (length (t .elements)) (length (t .location))) (sym h) (ready, copyable)
 
         met-next : met dims base rotation q i (at q) ≡ at (suc q)
         unfolding met runOf

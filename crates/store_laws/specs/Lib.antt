@@ -5,6 +5,7 @@ pub mod PlacesLaws
 pub mod Sound
 pub mod DecisionLaws
 pub mod RowsLaws
+pub mod CompactionSteps
 pub mod Lengths
 pub mod PointsLaws
 pub mod CountingLaws

@@ -2,6 +2,7 @@
 use crate::c_loop;
 use crate::sides::*;
 use crate::timed::both;
+use library::store::Opening;
 use reference::pointstore::PointStore;
 use reference::reasons::Code;
 use std::collections::VecDeque;
@@ -23,7 +24,7 @@ fn taken(value: u64) {
 }
 
 fn steady(capacity: usize, labels: bool) -> (f64, f64) {
-    let filled = Sides::filled(capacity, labels, capacity * 3 / 4);
+    let filled = Sides::filled(opening(capacity, labels), capacity * 3 / 4);
     let live: VecDeque<(usize, usize)> = filled.live.iter().copied().collect();
     let points: Vec<[f32; BASE]> = (0..TURNS).map(|k| point(capacity + k)).collect();
     let as_words: Vec<Vec<u32>> = points.iter().map(|p| words(p)).collect();
@@ -53,7 +54,7 @@ fn steady(capacity: usize, labels: bool) -> (f64, f64) {
 /// A hold add with the list full, beside the Rust's add and its dec of the oldest.
 fn hold_add(capacity: usize, labels: bool) -> (f64, f64) {
     let width = capacity * 3 / 4;
-    let filled = Sides::filled(capacity, labels, width);
+    let filled = Sides::filled(opening(capacity, labels), width);
     let live: VecDeque<(usize, usize)> = filled.live.iter().copied().collect();
     let hold = filled_hold(capacity, labels, width);
     let points: Vec<[f32; BASE]> = (0..TURNS).map(|k| point(capacity + k)).collect();
@@ -166,9 +167,9 @@ fn point_sum(full: &Sides) -> (f64, f64) {
     times
 }
 
-fn compaction(capacity: usize, labels: bool) -> (f64, f64) {
+fn compaction(o: Opening) -> (f64, f64) {
     const STORES: usize = 40;
-    let fragmented = Sides::fragmented(capacity, labels);
+    let fragmented = Sides::fragmented(o);
     both(
         STORES,
         || {
@@ -221,7 +222,7 @@ pub const CHECK: &str = "check, to a C loop";
 
 /// Everything at one capacity.
 pub fn rows(capacity: usize, labels: bool) -> Vec<Row> {
-    let full = Sides::filled(capacity, labels, capacity);
+    let full = Sides::filled(opening(capacity, labels), capacity);
     let row = |what, (here, there): (f64, f64)| Row {
         what,
         capacity,
@@ -236,8 +237,9 @@ pub fn rows(capacity: usize, labels: bool) -> Vec<Row> {
         row("copy", copy(&full)),
         row("is_equal", is_equal(&full)),
         row("sum of 1,000", point_sum(&full)),
-        row("compaction", compaction(capacity, labels)),
+        row("compaction", compaction(opening(capacity, labels))),
+        row("compaction, rotating", compaction(rotating(capacity, labels))),
         row("opening", opening_again(capacity, labels)),
-        row(CHECK, check(&Sides::fragmented(capacity, labels))),
+        row(CHECK, check(&Sides::fragmented(opening(capacity, labels)))),
     ]
 }

@@ -1,4 +1,4 @@
-//! A store on both sides, after the same calls. Dimensions 16, shingle size 4, internal shingling, no rotation.
+//! A store on both sides, after the same calls. Dimensions 16, shingle size 4, internal shingling; no rotation but where it is said.
 use library::hold::LentHold;
 use library::store::{Added, Lent, Opening};
 use reference::pointstore::PointStore;
@@ -26,6 +26,13 @@ pub fn opening(capacity: usize, labels: bool) -> Opening {
         internal_shingling: 1,
         internal_rotation: 0,
         store_labels: labels as usize,
+    }
+}
+
+pub fn rotating(capacity: usize, labels: bool) -> Opening {
+    Opening {
+        internal_rotation: 1,
+        ..opening(capacity, labels)
     }
 }
 
@@ -111,9 +118,8 @@ pub fn nothing_added() -> Added {
 }
 
 impl Sides {
-    pub fn opened(capacity: usize, labels: bool) -> Self {
-        let mut memory = lent(capacity, labels);
-        let o = opening(capacity, labels);
+    pub fn opened(o: Opening) -> Self {
+        let mut memory = lent(o.capacity, o.store_labels == 1);
         assert_eq!(memory.open(o), 0, "opening");
         Sides {
             lent: memory,
@@ -143,8 +149,8 @@ impl Sides {
     }
 
     /// With so many live points.
-    pub fn filled(capacity: usize, labels: bool, live: usize) -> Self {
-        let mut sides = Sides::opened(capacity, labels);
+    pub fn filled(o: Opening, live: usize) -> Self {
+        let mut sides = Sides::opened(o);
         while sides.live.len() < live {
             sides.add();
         }
@@ -152,9 +158,9 @@ impl Sides {
     }
 
     /// Full, and then every second point gone.
-    pub fn fragmented(capacity: usize, labels: bool) -> Self {
-        let mut sides = Sides::filled(capacity, labels, capacity);
-        for place in (0..capacity / 2).rev() {
+    pub fn fragmented(o: Opening) -> Self {
+        let mut sides = Sides::filled(o, o.capacity);
+        for place in (0..o.capacity / 2).rev() {
             sides.dec(2 * place);
         }
         sides

@@ -18,26 +18,22 @@ sub-copy-down c = search needs
 copy-down-requires : tie.Need-copy-down-requires
 copy-down-requires c κs = search needs
 
-sub-free : tie.Need-sub-free
-sub-free c = search needs
-
-add-free : tie.Need-add-free
-add-free c = search needs
-
-sub-location : tie.Need-sub-location
-sub-location c = search needs
-
-div-location : tie.Need-div-location
-div-location c = search needs
-
 cast-location : tie.Need-cast-location
-cast-location c = record { fits = lt-of-le-of-lt (div-le-self _ _) (omega (arith, c .before .before .before .before .before .before .before .before .before .before .before .before .before .before .pre)) }
+cast-location c =
+    let pre = c .before .before .before .before .before .before .before .before .before .before .before .before .pre in
+    record { fits = rw (pre .placed) (lt-of-le-of-lt (div-le-self _ _) (omega (arith, pre .behind, pre .forward, pre .small))) }
 
 mul-location : tie.Need-mul-location
 mul-location c = search needs
 
 slice-write-location : tie.Need-slice-write-location
-slice-write-location c = search needs
+slice-write-location c = c .before .before .before .before .before .before .before .before .before .before .before .before .pre .listed
+
+sub-result : tie.Need-sub-result
+sub-result c = search needs
+
+add-result : tie.Need-add-result
+add-result c = search needs
 
 same-length : tie.Need-same-length
 same-length c = search needs
@@ -47,8 +43,9 @@ same-length-2 c = search needs
 
 returns : tie.Need-returns
 returns c =
-    let a = c .before .before .before .before .before .before .before .before .before .before .before .before .before .before .args in
-    run-copied (a .shape .dimensions) (a .shape .base) (a .run) (a .end) (a .index) (a .done) (a .store .now) (a .location .now) (c .before .before .before .before .before .before .before .before .fill .last .0) (c .before .before .before .before .copy-down .last .0) (c .before .before .before .before .before .before .before .before .fill .ensures) (c .before .before .before .before .copy-down .ensures)
+    let start = c .before .before .before .before .before .before .before .before .before .before .before .before in
+    let a = start .args in
+    run-copied (a .shape .dimensions) (a .shape .base) (a .run) (a .end) (a .index) (a .free) (a .store .now) (a .location .now) (c .before .before .before .before .before .before .before .fill .last .0) (c .before .before .before .copy-down .last .0) (start .pre .placed) (c .before .before .before .before .before .before .before .fill .ensures) (c .before .before .before .copy-down .ensures)
 
 pub copy-run-spec : {M : Type 1} → statement M
 copy-run-spec =
@@ -58,13 +55,11 @@ copy-run-spec =
     fill-requires
     sub-copy-down
     copy-down-requires
-    sub-free
-    add-free
-    sub-location
-    div-location
     cast-location
     mul-location
     slice-write-location
+    sub-result
+    add-result
     same-length
     same-length-2
     returns)
