@@ -82,6 +82,11 @@ module _ {E : Type 0} (s : Shape) (m : Memory E) where
         split go q = (refl, ap (λ (o : ProbesOutcome E). o .after) (sym q))
         split (refuse k) q = absurd (let a : refused k ≡ done = ap (λ (o : ProbesOutcome E). o .answer) q in let z : _≡_ {A = ℕ} 0 1 = cc in omega arith)
 
+pub zeros-at : (n k : ℕ) → _≡_ {A = ℕ} (getD (replicate n 0) k 0) 0
+zeros-at zero k = refl
+zeros-at (suc n) zero = refl
+zeros-at (suc n) (suc k) = zeros-at n k
+
 -- what a fresh store has of its shape
 module _ {E : Type 0} (zeroElement : E) (s : Shape) (m : Memory E) where
   pub record Begun (p : PointStore E) : Type 0 where
@@ -101,11 +106,6 @@ module _ {E : Type 0} (zeroElement : E) (s : Shape) (m : Memory E) where
       by-cases Begun (s .«store_labels») (withLabels (labelsOpened (s .capacity) (labelHalf p)) p) p
       (λ on. begun-with (labelsOpened (s .capacity) (labelHalf p)))
       (λ off. begun-with (labelHalf p))
-
-  zeros-at : (n k : ℕ) → _≡_ {A = ℕ} (getD (replicate n 0) k 0) 0
-  zeros-at zero k = refl
-  zeros-at (suc n) zero = refl
-  zeros-at (suc n) (suc k) = zeros-at n k
 
   pub fresh-sound : probesOpenDecided s m ≡ go → ProbesSound (freshProbes (opened zeroElement s m))
   fresh-sound e =

@@ -11,13 +11,14 @@ use Rattle.store_definitions.specs.Answers.{Answer, kept, waiting, done, is, sa
 use Rattle.store_definitions.specs.Parts.{baseOf}
 use Rattle.store_definitions.specs.Adding.{addSpec}
 use Rattle.store_definitions.specs.WellFormed.{wellFormed}
+use Rattle.store_laws.specs.Cases.{by-cases}
 use Rattle.store_laws.specs.AddingLaws.{add-keeps}
 use Rattle.probes_definitions.specs.Memory.{PointProbes, storeOf, lastFloats}
 use Rattle.probes_definitions.specs.Answers.{ProbesOutcome, probesOutcome}
-use Rattle.probes_definitions.specs.Readings.{ProbeReading, absent, filled, tallied}
+use Rattle.probes_definitions.specs.Readings.{ProbeReading, absent, filled, tallied, ofKinds}
 use Rattle.probes_definitions.specs.ReadingLaws.{tallied-length, estimates-most, tallied-at}
 use Rattle.probes_definitions.specs.WellFormed.{probesWellFormed}
-use Rattle.probes_definitions.specs.Setting.{talliedWith, setAdded, setDecided, thenSet, setChecked, setSpec}
+use Rattle.probes_definitions.specs.Setting.{talliedWith, setAdded, setDecided, kindsDecided, thenSet, setChecked, setSpec, setKindsSpec}
 use Rattle.probes_definitions.specs.Sound.{ProbesSound, probes-sound, probes-sound-make}
 use Rattle.probes_definitions.specs.WindowAfter.{SameShape, Unmoved, Moved, Leaves, add-leaves}
 
@@ -90,3 +91,13 @@ module _ {E : Type 0} (eq : E → E → Bool) (zeroElement : E) (p : PointProbes
   -- a set, kept, waiting or refused, keeps a product well-formed
   pub set-keeps : probesWellFormed p ≡ true → probesWellFormed (setSpec eq zeroElement p set code .after) ≡ true
   set-keeps e = probes-sound-make (setSpec eq zeroElement p set code .after) (set-sound (probes-sound p e))
+
+-- kinds that stand for readings are that set; others are no set, and nothing is changed
+module _ {E : Type 0} (eq : E → E → Bool) (zeroElement : E) (p : PointProbes E) (kinds : List ℕ) (xs : List E) (code : ℕ) where
+  pub kinds-set : kindsDecided kinds xs ≡ go → setKindsSpec eq zeroElement p kinds xs code ≡ setSpec eq zeroElement p (ofKinds kinds xs) code
+  unfolding setKindsSpec setSpec
+  kinds-set e = rw e
+
+  pub kinds-none : (n : ℕ) → kindsDecided kinds xs ≡ refuse n → setKindsSpec eq zeroElement p kinds xs code .after ≡ p
+  unfolding setKindsSpec
+  kinds-none n e = rw e (by-cases (λ o. o .after ≡ p) (probesWellFormed p) (probesOutcome (refused n) p) (probesOutcome (refused 1) p) (λ w. refl) (λ w. refl))

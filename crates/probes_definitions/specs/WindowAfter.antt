@@ -150,8 +150,8 @@ module _ {E : Type 0} (p : PointStore E) (w : Sound p) (eight : baseOf (p .heade
   abbrev whole : List E
   whole = take dims (p .memory .lastKnownShingle)
 
-  wide : 8 ≤ dims
-  wide = omega (arith, eight, le-of-dvd (w .bounds .dims-least) (base-divides dims (p .header .«shingle_size») (p .header .capacity) (w .bounds)))
+  pub eight-wide : 8 ≤ dims
+  eight-wide = omega (arith, eight, le-of-dvd (w .bounds .dims-least) (base-divides dims (p .header .«shingle_size») (p .header .capacity) (w .bounds)))
 
   whole-length : length whole ≡ dims
   whole-length = length-take-le dims (p .memory .lastKnownShingle) (w .lent .window-lent)
@@ -159,14 +159,14 @@ module _ {E : Type 0} (p : PointStore E) (w : Sound p) (eight : baseOf (p .heade
   -- they are eight
   pub last-length : length (lastFloats p) ≡ 8
   unfolding lastFloats
-  last-length = rw (length-drop (dims - 8) whole, whole-length) (omega (arith, wide))
+  last-length = rw (length-drop (dims - 8) whole, whole-length) (omega (arith, eight-wide))
 
   module _ (internal : p .header .«internal_shingling» ≡ true) (point : List E) (sized : length point ≡ 8) where
     rest-length : length (drop 8 whole) ≡ dims - 8
     rest-length = rw (length-drop 8 whole, whole-length) refl
 
     moved-length : length (drop 8 whole ++ point) ≡ dims
-    moved-length = length-append (drop 8 whole) point ∙ (let e = rest-length in omega (arith, e, sized, wide))
+    moved-length = length-append (drop 8 whole) point ∙ (let e = rest-length in omega (arith, e, sized, eight-wide))
 
     after-is : windowAfter p point ≡ (drop 8 whole ++ point) ++ drop dims (p .memory .lastKnownShingle)
     unfolding windowAfter movedWindow
