@@ -6,17 +6,16 @@ use Rattle.store_definitions.specs.declared.Shape.{Shape}
 use Rattle.store_definitions.specs.Memory.{Memory, PointStore}
 use Rattle.store_definitions.specs.Decisions.{andThen, refuseIf}
 use Rattle.store_definitions.specs.Answers.{done, refused}
-use Rattle.store_definitions.specs.Opening.{shapeAllowed, openDecided, noRecord, opened}
+use Rattle.store_definitions.specs.Opening.{openDecided, noRecord, opened}
 use Rattle.probes_definitions.specs.declared.Probes.{Probes}
 use Rattle.probes_definitions.specs.Memory.{PointProbes, pointProbes}
 use Rattle.probes_definitions.specs.Answers.{ProbesOutcome, probesOutcome}
 use Rattle.probes_definitions.specs.WellFormed.{eightProbes}
 
--- 2, for the store's bounds and for 'Another base, or no internal shingling'; then 1
+-- 'Another base, or no internal shingling, gets 2 on opening'; then the store's 2 and 1
 unfoldable pub probesOpenDecided : {E : Type 0} → Shape → Memory E → Decided
 probesOpenDecided s m =
-    andThen (refuseIf (not (shapeAllowed s)) 2)
-    (andThen (refuseIf (not (eightProbes (s .dimensions) (s .«shingle_size») (s .«internal_shingling»))) 2) (openDecided s m))
+    andThen (refuseIf (not (eightProbes (s .dimensions) (s .«shingle_size») (s .«internal_shingling»))) 2) (openDecided s m)
 
 abbrev pub freshProbes : {E : Type 0} → PointStore E → PointProbes E
 freshProbes p = record { header = record { store = p .header; tallies = replicate 8 0 }; memory = p .memory }

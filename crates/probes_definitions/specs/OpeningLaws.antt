@@ -13,12 +13,12 @@ use Rattle.store_definitions.specs.Memory.{Memory, PointStore}
 use Rattle.store_definitions.specs.Answers.{done, refused}
 use Rattle.store_definitions.specs.Bounds.{lentEnough}
 use Rattle.store_definitions.specs.Parts.{labelHalf, withLabels}
-use Rattle.store_definitions.specs.Decisions.{refuseIf}
+use Rattle.store_definitions.specs.Decisions.{andThen, refuseIf}
 use Rattle.store_definitions.specs.Opening.{shapeAllowed, openDecided, freshRecord, openedMemory, opened}
 use Rattle.store_laws.specs.Cases.{by-cases}
 use Rattle.store_laws.specs.Sound.{sound-make}
 use Rattle.store_laws.specs.DecisionLaws.{both-go, not-refused}
-use Rattle.store_laws.specs.OpeningLaws.{open-accepted, open-short, opened-sound}
+use Rattle.store_laws.specs.OpeningLaws.{open-outside, open-accepted, open-short, opened-sound}
 use Rattle.probes_definitions.specs.Memory.{PointProbes, pointProbes}
 use Rattle.probes_definitions.specs.Answers.{ProbesOutcome, probesOutcome}
 use Rattle.probes_definitions.specs.WellFormed.{eightProbes}
@@ -29,36 +29,37 @@ module _ {E : Type 0} (s : Shape) (m : Memory E) where
   abbrev eight : Bool
   eight = eightProbes (s .dimensions) (s .«shingle_size») (s .«internal_shingling»)
 
-  -- 2 exactly outside the bounds, for another base or without internal shingling; then 1 exactly over memory too short
+  -- 2 exactly for another base, without internal shingling or outside the bounds; then 1 exactly over memory too short
+  pub probes-open-other : eight ≡ false → probesOpenDecided s m ≡ refuse 2
+  unfolding probesOpenDecided
+  probes-open-other e = rw e
+
   pub probes-open-outside : shapeAllowed s ≡ false → probesOpenDecided s m ≡ refuse 2
   unfolding probesOpenDecided
-  probes-open-outside e = rw e
+  probes-open-outside e = ap (λ (d : Decided). andThen (refuseIf (not eight) 2) d) (open-outside s m e) ∙ same eight
+    where
+      same : (b : Bool) → andThen (refuseIf (not b) 2) (refuse 2) ≡ refuse 2
+      same true = refl
+      same false = refl
 
-  pub probes-open-other : shapeAllowed s ≡ true → eight ≡ false → probesOpenDecided s m ≡ refuse 2
-  unfolding probesOpenDecided
-  probes-open-other e f = rw (e, f)
-
-  module _ (e : shapeAllowed s ≡ true) (f : eight ≡ true) where
+  module _ (e : eight ≡ true) where
     -- the rest is the store's
     pub probes-open-store : probesOpenDecided s m ≡ openDecided s m
     unfolding probesOpenDecided
-    probes-open-store = rw (e, f)
+    probes-open-store = rw e
 
-    pub probes-open-short : lentEnough (s .dimensions) (s .capacity) (s .«store_labels») m ≡ false → probesOpenDecided s m ≡ refuse 1
-    probes-open-short l = probes-open-store ∙ open-short s m e l
+    pub probes-open-short : shapeAllowed s ≡ true → lentEnough (s .dimensions) (s .capacity) (s .«store_labels») m ≡ false → probesOpenDecided s m ≡ refuse 1
+    probes-open-short f l = probes-open-store ∙ open-short s m f l
 
   pub record Openable : Type 0 where
-    pub shaped : shapeAllowed s ≡ true
     pub eight-probes : eight ≡ true
     pub of-store : openDecided s m ≡ go
 
   pub probes-open-accepted : probesOpenDecided s m ≡ go → Openable
   unfolding probesOpenDecided
   probes-open-accepted e =
-      let a = both-go (refuseIf (not (shapeAllowed s)) 2) _ e in
-      let b = both-go (refuseIf (not eight) 2) (openDecided s m) (a .1) in
+      let b = both-go (refuseIf (not eight) 2) (openDecided s m) e in
       record {
-        shaped = not-false (shapeAllowed s) (not-refused _ 2 (a .0));
         eight-probes = not-false eight (not-refused _ 2 (b .0));
         of-store = b .1;
       }

@@ -37,9 +37,10 @@ loop-less c = search needs
 loop-again : tie.Need-loop-again Inv-loop μ-loop
 loop-again c =
     let a = c .before .before .args in
-    let l = c .before .loop in
-    (omega (arith, c .loop-test .taken),
-    ap (λ (b : Bool). b && leb (getD (a .t2) (l .k) 0) (a .sequence)) (l .inv .1) ∙ sym (every-more (l .k) (λ j. leb (getD (a .t2) j 0) (a .sequence))))
+    let l = c .before .loop in (
+      omega (arith, c .loop-test .taken),
+      ap (λ (b : Bool). b && leb (getD (a .t2) (l .k) 0) (a .sequence)) (l .inv .1) ∙ sym (every-more (l .k) (λ j. leb (getD (a .t2) j 0) (a .sequence))),
+    )
 
 returns : tie.Need-returns Inv-loop μ-loop
 unfolding talliesWithin
