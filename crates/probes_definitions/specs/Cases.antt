@@ -37,7 +37,7 @@ use Rattle.store_definitions.specs.Decisions.{formDecided, live, touchDecided}
 use Rattle.store_definitions.specs.WellFormed.{tableLengthWell, storeLengthWell, freeStartWell, emptyUncounted, placesDistinct, placesEnd, sequenceWell, wellFormed}
 use Rattle.probes_definitions.specs.Memory.{PointProbes, storeOf, lastFloats}
 use Rattle.probes_definitions.specs.Answers.{ProbesOutcome, probesOutcome}
-use Rattle.probes_definitions.specs.Readings.{ProbeReading, measured, estimated, absent, anyAbsent, filled, tallied, ofKinds, anyUnknown}
+use Rattle.probes_definitions.specs.Readings.{ProbeReading, measured, estimated, absent, anyAbsent, filled, tallied, ofKinds, anyAbove}
 use Rattle.probes_definitions.specs.WellFormed.{eightProbes, talliesWithin, probesWellFormed}
 use Rattle.probes_definitions.specs.Opening.{probesOpenDecided, probesOpenSpec}
 use Rattle.probes_definitions.specs.Setting.{noEarlier, setDecided, kindsDecided, setChecked, setSpec, setKindsSpec}
@@ -252,7 +252,7 @@ stand (c ∷ cs) = agree (c .found) (c .expected) && stand cs
 
 -- every case gives what is said of it
 probe-cases : stand cases ≡ true
-unfolding said run opening started ran first last plain windowed labelled-sets rotating zeros cases agree stand shape rubbish withInside sequenceMade called eight numbers same lastFloats anyAbsent filled tallied ofKinds anyUnknown eightProbes talliesWithin probesWellFormed probesOpenDecided probesOpenSpec noEarlier setDecided kindsDecided setChecked setSpec setKindsSpec everyBelow allEqual pushed changed taken released inside holders isFree inBounds noneShared capacityAllowed stackLent managerWellFormed wrappingSub wrappingAdd alignment zerosBefore holds liveBelow moved grownBlocks blocks blockMoves copiedDown settled blockDown blocksDown writtenByBlocks compacted turn turned copied grown writtenCount laidAs laidElements laidFree placeOf overlaps rowToLay movedWindow managed freeUncounted countsFit indexTaken lowered codeDecided roomDecided decDecided openDecided openedMemory opened decTest placeAfterDec decremented decSpec compactedRows grownRows short roomMade copyOf pointLength waits tableFull entriesFilled addDecided windowAfter sequenced rowOf labelGiven labelled tableGrown placed joins overflows laidRows laidHow keptAfter indexGiven keeps addSpec boundsHold startAllowed rotationAllowed lentEnough formDecided live touchDecided tableLengthWell storeLengthWell freeStartWell emptyUncounted placesDistinct placesEnd sequenceWell wellFormed sumBelow countBelow firstBelow raised inUse holdsClass classSlot slotTaken labelTaken labelLowered slotSum differ labelTablesLent codesAllowed slotsHoldClasses classesDistinct slotsSummed labelsWell labelsOpened labelsLent reasonClasses
+unfolding said run opening started ran first last plain windowed labelled-sets rotating zeros cases agree stand shape rubbish withInside sequenceMade called eight numbers same lastFloats anyAbsent filled tallied ofKinds anyAbove eightProbes talliesWithin probesWellFormed probesOpenDecided probesOpenSpec noEarlier setDecided kindsDecided setChecked setSpec setKindsSpec everyBelow allEqual pushed changed taken released inside holders isFree inBounds noneShared capacityAllowed stackLent managerWellFormed wrappingSub wrappingAdd alignment zerosBefore holds liveBelow moved grownBlocks blocks blockMoves copiedDown settled blockDown blocksDown writtenByBlocks compacted turn turned copied grown writtenCount laidAs laidElements laidFree placeOf overlaps rowToLay movedWindow managed freeUncounted countsFit indexTaken lowered codeDecided roomDecided decDecided openDecided openedMemory opened decTest placeAfterDec decremented decSpec compactedRows grownRows short roomMade copyOf pointLength waits tableFull entriesFilled addDecided windowAfter sequenced rowOf labelGiven labelled tableGrown placed joins overflows laidRows laidHow keptAfter indexGiven keeps addSpec boundsHold startAllowed rotationAllowed lentEnough formDecided live touchDecided tableLengthWell storeLengthWell freeStartWell emptyUncounted placesDistinct placesEnd sequenceWell wellFormed sumBelow countBelow firstBelow raised inUse holdsClass classSlot slotTaken labelTaken labelLowered slotSum differ labelTablesLent codesAllowed slotsHoldClasses classesDistinct slotsSummed labelsWell labelsOpened labelsLent reasonClasses
 probe-cases = refl
 
 -- the tallies after some sets, in a slice of n entries: one that is not as long as eight gets 3 and is left as it was
@@ -265,5 +265,5 @@ read n cs = readings n cs (probesOpenSpec 0 plain (rubbish plain 2) .after)
 
 tally-readings : (same (read 8 (set (first (estimated 5) 1) 0 ∷ [])) (2 ∷ 1 ∷ replicate 7 0)
     && (same (read 7 []) (5 ∷ 3 ∷ replicate 7 77) && same (read 9 []) (5 ∷ 3 ∷ replicate 9 77))) ≡ true
-unfolding readings read first plain probesFormDecided talliesSpec shape rubbish withInside sequenceMade called eight numbers same lastFloats anyAbsent filled tallied ofKinds anyUnknown eightProbes talliesWithin probesWellFormed probesOpenDecided probesOpenSpec noEarlier setDecided kindsDecided setChecked setSpec setKindsSpec everyBelow allEqual pushed changed taken released inside holders isFree inBounds noneShared capacityAllowed stackLent managerWellFormed wrappingSub wrappingAdd alignment zerosBefore holds liveBelow moved grownBlocks blocks blockMoves copiedDown settled blockDown blocksDown writtenByBlocks compacted turn turned copied grown writtenCount laidAs laidElements laidFree placeOf overlaps rowToLay movedWindow managed freeUncounted countsFit indexTaken lowered codeDecided roomDecided decDecided openDecided openedMemory opened decTest placeAfterDec decremented decSpec compactedRows grownRows short roomMade copyOf pointLength waits tableFull entriesFilled addDecided windowAfter sequenced rowOf labelGiven labelled tableGrown placed joins overflows laidRows laidHow keptAfter indexGiven keeps addSpec boundsHold startAllowed rotationAllowed lentEnough formDecided live touchDecided tableLengthWell storeLengthWell freeStartWell emptyUncounted placesDistinct placesEnd sequenceWell wellFormed sumBelow countBelow firstBelow raised inUse holdsClass classSlot slotTaken labelTaken labelLowered slotSum differ labelTablesLent codesAllowed slotsHoldClasses classesDistinct slotsSummed labelsWell labelsOpened labelsLent reasonClasses
+unfolding readings read first plain probesFormDecided talliesSpec shape rubbish withInside sequenceMade called eight numbers same lastFloats anyAbsent filled tallied ofKinds anyAbove eightProbes talliesWithin probesWellFormed probesOpenDecided probesOpenSpec noEarlier setDecided kindsDecided setChecked setSpec setKindsSpec everyBelow allEqual pushed changed taken released inside holders isFree inBounds noneShared capacityAllowed stackLent managerWellFormed wrappingSub wrappingAdd alignment zerosBefore holds liveBelow moved grownBlocks blocks blockMoves copiedDown settled blockDown blocksDown writtenByBlocks compacted turn turned copied grown writtenCount laidAs laidElements laidFree placeOf overlaps rowToLay movedWindow managed freeUncounted countsFit indexTaken lowered codeDecided roomDecided decDecided openDecided openedMemory opened decTest placeAfterDec decremented decSpec compactedRows grownRows short roomMade copyOf pointLength waits tableFull entriesFilled addDecided windowAfter sequenced rowOf labelGiven labelled tableGrown placed joins overflows laidRows laidHow keptAfter indexGiven keeps addSpec boundsHold startAllowed rotationAllowed lentEnough formDecided live touchDecided tableLengthWell storeLengthWell freeStartWell emptyUncounted placesDistinct placesEnd sequenceWell wellFormed sumBelow countBelow firstBelow raised inUse holdsClass classSlot slotTaken labelTaken labelLowered slotSum differ labelTablesLent codesAllowed slotsHoldClasses classesDistinct slotsSummed labelsWell labelsOpened labelsLent reasonClasses
 tally-readings = refl

@@ -58,10 +58,10 @@ module _ {E : Type 0} where
   ofKinds (k ∷ ks) [] = []
   ofKinds (k ∷ ks) (x ∷ xs) = ofKind k x ∷ ofKinds ks xs
 
--- a kind that no reading has
-unfoldable pub anyUnknown : List ℕ → Bool
-anyUnknown [] = false
-anyUnknown (k ∷ ks) = ltb 2 k || anyUnknown ks
+-- a number above n: no reading has a kind above 2
+unfoldable pub anyAbove : ℕ → List ℕ → Bool
+anyAbove n [] = false
+anyAbove n (k ∷ ks) = ltb n k || anyAbove n ks
 
 -- the reading of a float: its word is stored, and that of any NaN is 0x7fc00000
 abbrev pub ofFloat : Reading → ProbeReading ℕ

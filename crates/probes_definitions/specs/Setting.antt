@@ -10,7 +10,7 @@ use Rattle.store_definitions.specs.Decisions.{andThen, refuseIf}
 use Rattle.store_definitions.specs.Adding.{addSpec}
 use Rattle.probes_definitions.specs.Memory.{PointProbes, storeOf, lastFloats}
 use Rattle.probes_definitions.specs.Answers.{ProbesOutcome, probesOutcome}
-use Rattle.probes_definitions.specs.Readings.{ProbeReading, anyAbsent, filled, tallied, ofKinds, anyUnknown}
+use Rattle.probes_definitions.specs.Readings.{ProbeReading, anyAbsent, filled, tallied, ofKinds, anyAbove}
 use Rattle.probes_definitions.specs.WellFormed.{probesWellFormed}
 
 module _ {E : Type 0} where
@@ -45,7 +45,7 @@ module _ {E : Type 0} where
   unfoldable pub kindsDecided : List ℕ → List E → Decided
   kindsDecided kinds xs =
       andThen (refuseIf (not (eqb (length kinds) 8)) 3)
-      (andThen (refuseIf (not (eqb (length xs) 8)) 3) (refuseIf (anyUnknown kinds) 11))
+      (andThen (refuseIf (not (eqb (length xs) 8)) 3) (refuseIf (anyAbove 2 kinds) 11))
 
   abbrev pub thenSet : Decided → PointProbes E → ProbesOutcome E → ProbesOutcome E
   thenSet go p o = o
