@@ -8,8 +8,7 @@ use lib.ListN.{length, getD, take, drop}
 use lib.Dec.{eqb}
 use borrow.Author.Tests.{eqb-true, not-false}
 use Rattle.interval_store_manager.specs.Calls.{Decided, go, refuse}
-use Rattle.store_definitions.specs.declared.Store.{Store}
-use Rattle.store_definitions.specs.Memory.{Memory, PointStore, pointStore}
+use Rattle.store_definitions.specs.Memory.{PointStore}
 use Rattle.store_definitions.specs.Answers.{Answer, kept, waiting, done, is, says, refused, refusedAfter, Outcome, outcome}
 use Rattle.store_definitions.specs.Decisions.{andThen, refuseIf}
 use Rattle.store_definitions.specs.Adding.{addSpec}
@@ -20,9 +19,9 @@ use Rattle.probes_definitions.specs.Memory.{PointProbes, pointProbes, storeOf, 
 use Rattle.probes_definitions.specs.Answers.{ProbesOutcome, probesOutcome}
 use Rattle.probes_definitions.specs.Readings.{ProbeReading, filled, ofKinds, ofFloats}
 use Rattle.probes_definitions.specs.WellFormed.{probesWellFormed}
-use Rattle.probes_definitions.specs.Setting.{talliedWith, setAdded, setDecided, kindsDecided, thenSet, setChecked, setSpec, setKindsSpec}
+use Rattle.probes_definitions.specs.Setting.{setAdded, setDecided, kindsDecided, thenSet, setChecked, setSpec, setKindsSpec}
 use Rattle.probes_definitions.specs.Sound.{probes-sound}
-use Rattle.probes_definitions.specs.WindowAfter.{Leaves, Moved, add-leaves, eight-wide}
+use Rattle.probes_definitions.specs.WindowAfter.{Leaves, add-leaves, eight-wide}
 use Rattle.probes_definitions.specs.SettingLaws.{kinds-set}
 use Rattle.probe_readings.specs.Kinds.{kindsOf, wordsOf, set-same, floats-decided, talliedKinds, isAccepted, tallied-if}
 use Rattle.probe_readings.specs.Deciding.{setAsked, asked-is}

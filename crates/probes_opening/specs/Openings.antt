@@ -1,13 +1,12 @@
 -- Opening a product as its code does it: the product's own test, and then the store's opening.
 use Prim.Native.Nat.{ℕ, _<_, _≤_}
-use mathlib.Core.Bool.{Bool, true, false, not, _&&_}
+use mathlib.Core.Bool.{Bool, true, false, _&&_}
 use mathlib.Core.Path.{_≡_, refl, sym, ap, _∙_}
 use lib.ListN.{replicate}
 use lib.Dec.{leb}
 use borrow.Author.Tests.{le-leb, lt-leb}
 use Rattle.terms.specs.Below.{both}
 use Rattle.interval_store_manager.specs.Calls.{Decided, go, refuse}
-use Rattle.store_definitions.specs.declared.Store.{Store}
 use Rattle.store_definitions.specs.declared.Shape.{Shape}
 use Rattle.store_definitions.specs.declared.DoneResult.{DoneResult}
 use Rattle.store_definitions.specs.Memory.{Memory, pointStore}

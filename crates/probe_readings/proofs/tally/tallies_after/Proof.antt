@@ -1,5 +1,4 @@
 -- By the flag.
-use mathlib.Core.Path.{_∙_}
 use Rattle.probe_readings.proofs.tally.tallies_after.Statement.{statement}
 use Rattle.probe_readings.proofs.tally.tallies_after.Tie as tie
 
