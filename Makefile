@@ -72,6 +72,7 @@ $(BUILT)/%.checked: $(BUILT)/% %.stdout
 check-rust: $(LIBRARY)
 	$(CARGO) test --quiet --manifest-path bindings/rust/Cargo.toml
 	$(CARGO) run --quiet --manifest-path examples/rust/Cargo.toml | diff examples/rust/stdout -
+	$(CARGO) run --quiet --manifest-path examples/rust/Cargo.toml --bin probe_loop | diff examples/rust/probe_loop.stdout -
 
 install: $(LIBRARY)
 	install -d $(DESTDIR)$(prefix)/lib/pkgconfig $(DESTDIR)$(prefix)/include

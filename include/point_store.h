@@ -33,6 +33,8 @@
  *                    would make it more gives up the oldest. The width is at least 1 and below `capacity`.
  *   held, oldest     held is what stands in that list: every live point of the store inside, once and with count 1, in the order in
  *                    which they were kept. The oldest is the first of them.
+ *   product, tally   the product for the eight-probe block is a store of its own that takes sets of eight readings, one a probe, with a
+ *                    tally a probe: how many of its readings in accepted sets were estimates.
  *
  * What a call returns
  *   0 (PS_OK), or one of the refusal numbers below, the first that applies in the order that stands at the call. A refused call
@@ -40,7 +42,7 @@
  *   - PS_FLOAT_SPACE_FULL (10) leaves floats, places, free start and store length as compaction and growth made them;
  *   - the pairs before an adjust's refused one stand, and how many they are is told.
  *   A 1 can mean a store that was never opened, a slice too short, or contents that are no store: ps_store_state() tells which, and
- *   ps_hold_state() of a hold.
+ *   ps_hold_state() of a hold, ps_probes_state() of a product.
  *
  * What a caller owes
  *   - A length is true of its pointer: that many elements can be read there and, where the pointer is not const, written.
@@ -53,7 +55,7 @@
  *   NULL, even where the length is 0.
  *
  * A store is a record of PS_RECORD_WORDS words and fifteen lent slices (struct ps_store), a hold (struct ps_hold) one of PS_HOLD_WORDS
- * and two slices more. They belong to the caller and are handed
+ * and two slices more, a product (struct ps_probes) one of PS_PROBES_WORDS and no slice more. They belong to the caller and are handed
  * to each call as the last one left them. They hold no address of each other: record and slices may be copied or moved, together
  * and between calls, to other memory or to a file and back; `memory` then names the new slices.
  *
@@ -84,8 +86,8 @@ typedef char ps_float_has_4_bytes[sizeof(float) == 4 ? 1 : -1];
 /* What a call returns. */
 enum ps_refusal {
     PS_OK = 0,                  /* accepted */
-    PS_ILL_FORMED = 1,          /* ill-formed store, hold or manager, or a lent slice too short for its part */
-    PS_SHAPE = 2,               /* shape outside the bounds, on opening */
+    PS_ILL_FORMED = 1,          /* ill-formed store, hold, product or manager, or a lent slice too short for its part */
+    PS_SHAPE = 2,               /* shape outside the bounds or not the product's, on opening */
     PS_LENGTH = 3,              /* wrong length of a point or output slice */
     PS_LABEL_CODE = 4,          /* label code above 23, labels on */
     PS_POINT_NOT_IN_USE = 5,    /* index not below the table length, or with count 0 */
@@ -94,17 +96,18 @@ enum ps_refusal {
     PS_LABELS_FULL = 8,         /* labels on, every label index in use */
     PS_POINTS_FULL = 9,         /* no index free and the table cannot grow */
     PS_FLOAT_SPACE_FULL = 10,   /* no float space after compaction and growth */
-    PS_VALUE_TOO_LARGE = 11,    /* listed value too large, look-ahead above 65,535, weight above 16,777,216 */
+    PS_VALUE_TOO_LARGE = 11,    /* listed value or kind too large, look-ahead above 65,535, weight above 16,777,216 */
     PS_SEQUENCE_FULL = 12,      /* sequence number at 4,294,967,295 */
     PS_MANAGER_CAPACITY = 13,   /* manager opened at 0, or opened at or changed to above 1,024 */
     PS_NOT_RELEASABLE = 14,     /* release of an index free or not below capacity */
-    PS_HOLD_WIDTH = 15          /* hold opened with a width of 0 or not below capacity */
+    PS_HOLD_WIDTH = 15,         /* hold opened with a width of 0 or not below capacity */
+    PS_NO_EARLIER_READING = 16  /* an absent reading of a probe with no earlier one */
 };
 
 static inline const char *ps_refusal_text(uint64_t number) {
     switch (number) {
     case PS_OK: return "accepted";
-    case PS_ILL_FORMED: return "ill-formed store, hold or manager, or a lent slice too short for its part";
+    case PS_ILL_FORMED: return "ill-formed store, hold, product or manager, or a lent slice too short for its part";
     case PS_SHAPE: return "shape outside the bounds";
     case PS_LENGTH: return "wrong length of a point or output slice";
     case PS_LABEL_CODE: return "label code above 23";
@@ -119,6 +122,7 @@ static inline const char *ps_refusal_text(uint64_t number) {
     case PS_MANAGER_CAPACITY: return "manager capacity outside 1 to 1,024";
     case PS_NOT_RELEASABLE: return "index free already, or not below the capacity";
     case PS_HOLD_WIDTH: return "hold width of 0, or not below the capacity";
+    case PS_NO_EARLIER_READING: return "an absent reading of a probe with no earlier one";
     default: return "no refusal of this library";
     }
 }
@@ -135,12 +139,22 @@ static inline const char *ps_refusal_text(uint64_t number) {
 /* The floats of attribute_vec. */
 #define PS_ATTRIBUTE_FLOATS 10
 
-/* Words of a store's record, of a hold's and of a manager's. A store's are, in order: dimensions, shingle size, capacity, the
+/* The probes of a product, and the kinds of a probe's reading. */
+#define PS_PROBES 8
+enum ps_kind {
+    PS_MEASURED = 0,
+    PS_ESTIMATED = 1, /* stored like a measured one, and tallied for its probe */
+    PS_ABSENT = 2     /* repeats the probe's last stored float */
+};
+
+/* Words of a store's record, of a hold's, of a product's and of a manager's. A store's are, in order: dimensions, shingle size, capacity, the
  * flags of internal shingling, rotation and labels, store length, free start, sequence; then capacity and entries in use of the
  * managers of indices, of label indices and of attribute slots. A hold's are its store's, then its width and how many points are
- * held: every call of the store takes them too, and leaves the last two. A manager's are its capacity and its entries in use. */
+ * held: every call of the store takes them too, and leaves the last two. A product's are its store's, then its eight tallies, of 32
+ * bits each. A manager's are its capacity and its entries in use. */
 #define PS_RECORD_WORDS 15
 #define PS_HOLD_WORDS 17
+#define PS_PROBES_WORDS 23
 #define PS_MANAGER_WORDS 2
 
 /* How much to lend for a shape. Longer slices are fine, what lies past is never touched. With labels off the nine label slices may
@@ -242,6 +256,13 @@ uint64_t ps_hold_held(const uint64_t *words, size_t words_len, PS_READ_,
 uint64_t ps_hold_number(const uint64_t *words, size_t words_len, PS_READ_,
     const uint16_t *held_indices, size_t held_indices_len, const uint16_t *held_labels, size_t held_labels_len,
     uint64_t *number);
+uint64_t ps_probes_open(uint64_t *words, size_t words_len, PS_WRITTEN_,
+    size_t dimensions, size_t shingle_size, size_t capacity, size_t initial_capacity, size_t internal_shingling,
+    size_t internal_rotation, size_t store_labels);
+uint64_t ps_probes_set(uint64_t *words, size_t words_len, PS_WRITTEN_,
+    const uint8_t *kinds, size_t kinds_len, const uint32_t *floats, size_t floats_len, size_t label, uint64_t *kept,
+    uint64_t *index, uint64_t *label_index, uint64_t *joined, uint64_t *place);
+uint64_t ps_probes_tallies(const uint64_t *words, size_t words_len, PS_READ_, uint32_t *out, size_t out_len);
 
 #undef PS_WRITTEN_
 #undef PS_READ_
@@ -791,6 +812,117 @@ static inline enum ps_state ps_hold_state(const struct ps_hold *h) {
 }
 
 #undef PS_HELD_
+
+/* ---- The product for the eight-probe block as one struct ----
+ *
+ * A product is a store of base 8 with internal shingling, one entry a probe, and a tally a probe: how many estimates it has had. A set
+ * of eight readings is one add. The readings of the store inside are those of every store: ps_store_copy(&p.store, ..) and the
+ * others; so are its changes, ps_store_dec(&p.store, ..) first of all, by which a caller gives up windows that it has done with. They
+ * leave it a product. An add on the store inside raises the sequence, and a later PS_ABSENT repeats its floats. */
+
+/* Set up `store.memory`, by hand or with ps_probes_memory_in(), then open; the rest is the library's to write. */
+struct ps_probes {
+    struct ps_store store;
+    uint64_t tallies[PS_PROBES];
+};
+
+/* The record as the library takes it. */
+struct ps_probes_record {
+    uint64_t words[PS_PROBES_WORDS];
+};
+
+static inline struct ps_probes_record ps_probes_record_of(const struct ps_probes *p) {
+    struct ps_probes_record r;
+    size_t i;
+    for (i = 0; i < PS_RECORD_WORDS; i++)
+        r.words[i] = p->store.words[i];
+    for (i = 0; i < PS_PROBES; i++)
+        r.words[PS_RECORD_WORDS + i] = p->tallies[i];
+    return r;
+}
+
+static inline void ps_probes_record_to(struct ps_probes *p, const struct ps_probes_record *r) {
+    size_t i;
+    for (i = 0; i < PS_RECORD_WORDS; i++)
+        p->store.words[i] = r->words[i];
+    for (i = 0; i < PS_PROBES; i++)
+        p->tallies[i] = r->words[PS_RECORD_WORDS + i];
+}
+
+#define PS_PRODUCT_(access, p, r) (r).words, PS_PROBES_WORDS, PS_TABLES_(access, &(p)->store.memory)
+
+/* Lends a product its slices out of one block of ps_memory_bytes(shape) bytes, as ps_memory_in() does for a store: ps_store_probes_open()
+ * comes next. Refused with 1 for NULL, 2, and 1 for a shorter block. */
+static inline uint64_t ps_probes_memory_in(void *block, size_t bytes, const struct ps_shape *shape, struct ps_probes *p) {
+    static struct ps_probes empty; /* never written */
+    struct ps_store s;
+    uint64_t number;
+    if (!p)
+        return PS_ILL_FORMED;
+    number = ps_memory_in(block, bytes, shape, &s);
+    if (number != PS_OK)
+        return number;
+    *p = empty;
+    p->store = s;
+    return PS_OK;
+}
+
+/* Opens a product, with no set taken yet. Refused with 1 for NULL, then 2 for another base than 8, for no internal shingling or outside
+ * the bounds, then 1. */
+static inline uint64_t ps_store_probes_open(struct ps_probes *p, const struct ps_shape *shape) {
+    struct ps_probes_record r;
+    uint64_t number;
+    if (!p || !shape)
+        return PS_ILL_FORMED;
+    r = ps_probes_record_of(p);
+    number = ps_probes_open(PS_PRODUCT_(PS_NOTHING_, p, r), shape->dimensions, shape->shingle_size, shape->capacity,
+        shape->initial_capacity, (size_t)shape->internal_shingling, (size_t)shape->internal_rotation,
+        (size_t)shape->store_labels);
+    ps_probes_record_to(p, &r);
+    return number;
+}
+
+/* Takes a set of eight readings, each a kind (enum ps_kind) and a float, which for PS_ABSENT is not looked at; a NaN keeps its bits.
+ * The answer is that of ps_store_add(). An accepted set, kept or waiting, raises the tally of each estimated probe by one; a refused one
+ * alters no tally and no last float. Refused with 1, 3 for other than eight kinds or floats, 11 for a kind above 2, 16 for an absent
+ * reading while no set was taken, then 12, 4, 8, 9, 10 as an add. */
+static inline uint64_t ps_store_probes_set(struct ps_probes *p, const uint8_t *kinds, size_t kinds_len, const float *floats,
+    size_t floats_len, size_t label, struct ps_added *added) {
+    struct ps_probes_record r;
+    uint64_t number;
+    if (!p || !added || PS_MISSING_(kinds, kinds_len) || PS_MISSING_(floats, floats_len))
+        return PS_ILL_FORMED;
+    r = ps_probes_record_of(p);
+    number = ps_probes_set(PS_PRODUCT_(PS_NOTHING_, p, r), PS_SLICE_(const uint8_t, kinds, kinds_len),
+        PS_SLICE_(const uint32_t, floats, floats_len), label, &added->kept, &added->index, &added->label_index, &added->joined,
+        &added->place);
+    ps_probes_record_to(p, &r);
+    return number;
+}
+
+/* How many estimates each probe has had, into exactly eight entries. Refused with 1, 3. */
+static inline uint64_t ps_store_probes_tallies(const struct ps_probes *p, uint32_t *out, size_t out_len) {
+    struct ps_probes_record r;
+    if (!p || PS_MISSING_(out, out_len))
+        return PS_ILL_FORMED;
+    r = ps_probes_record_of(p);
+    return ps_probes_tallies(PS_PRODUCT_(const, p, r), PS_SLICE_(uint32_t, out, out_len));
+}
+
+/* What is behind a 1 of a product: PS_STATE_ILL_FORMED also where the store inside is well-formed and is no product's, or a tally is
+ * above its sequence. */
+static inline enum ps_state ps_probes_state(const struct ps_probes *p) {
+    uint32_t tallies[PS_PROBES];
+    enum ps_state inside;
+    if (!p)
+        return PS_STATE_NEVER_OPENED;
+    if (ps_store_probes_tallies(p, tallies, PS_PROBES) == PS_OK)
+        return PS_STATE_WELL_FORMED;
+    inside = ps_store_state(&p->store);
+    return inside != PS_STATE_WELL_FORMED ? inside : PS_STATE_ILL_FORMED;
+}
+
+#undef PS_PRODUCT_
 #undef PS_SLICE_
 #undef PS_TABLES_
 #undef PS_NOTHING_

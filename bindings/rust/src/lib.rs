@@ -3,8 +3,8 @@
 //! [`ProvedPointStore`] has the methods of the Rust original's trait [`PointStore`], in the same
 //! argument order and with the same return types. It owns its memory and lends it to the library for
 //! each call. A call answers, or refuses with a [`Refusal`]; none panics. [`Hold`] is a store that
-//! keeps the newest points and gives up older ones by itself. [`LentPointStore`] and [`LentHold`] have
-//! the same calls over memory that the caller lends, for `no_std` without an allocator, and
+//! keeps the newest points and gives up older ones by itself. [`Probes`] is the product for the
+//! eight-probe block. [`LentPointStore`], [`LentHold`] and [`LentProbes`] have the same calls over memory that the caller lends, for `no_std` without an allocator, and
 //! [`IntervalManager`] is the library's manager of free indices by itself.
 //!
 //! `docs/STORE.md` in the repository says what a store does: points and windows, places, growth,
@@ -32,8 +32,8 @@
 //! # }
 //! ```
 //!
-//! Features: `std` (on by default) and `alloc`, which [`ProvedPointStore`], [`Hold`] and
-//! [`PointStore`] need.
+//! Features: `std` (on by default) and `alloc`, which [`ProvedPointStore`], [`Hold`],
+//! [`Probes`] and [`PointStore`] need.
 //! The archive `libpoint_store_c.a` is taken from the folder that `POINT_STORE_LIB` names, from the
 //! repository's `target/staticlib`, or from where `pkg-config` finds it installed.
 #![warn(missing_docs)]
@@ -48,6 +48,7 @@ mod manager;
 mod memory;
 #[cfg(feature = "alloc")]
 mod point_store;
+mod probes;
 mod refusal;
 mod shape;
 #[cfg(feature = "alloc")]
@@ -64,6 +65,9 @@ pub use manager::IntervalManager;
 pub use memory::{LentMemory, RECORD_WORDS};
 #[cfg(feature = "alloc")]
 pub use point_store::PointStore;
+#[cfg(feature = "alloc")]
+pub use probes::Probes;
+pub use probes::{LentProbes, Reading, PROBES, PROBES_WORDS};
 pub use refusal::{AdjustRefusal, Refusal, Result};
 pub use shape::Shape;
 #[cfg(feature = "alloc")]

@@ -40,6 +40,16 @@ macro_rules! tables {
                 Ok(LentMemory::front(block, shape, RECORD_WORDS).0)
             }
 
+            /// The same with the record of a product, [`PROBES_WORDS`](crate::PROBES_WORDS) words, out
+            /// of a block of at least [`Shape::probes_block_words`] words.
+            pub fn in_probes_block(block: &'a mut [u64], shape: &Shape) -> Result<LentMemory<'a>> {
+                shape.check()?;
+                if block.len() < shape.probes_block_words() {
+                    return Err(Refusal::IllFormed);
+                }
+                Ok(LentMemory::front(block, shape, crate::probes::PROBES_WORDS).0)
+            }
+
             /// A record of so many words and the tables at the front of a block that is long enough,
             /// and the rest of it.
             pub(crate) fn front(

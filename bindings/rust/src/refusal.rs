@@ -28,7 +28,7 @@ pub enum Refusal {
     /// [`ProvedPointStore`](crate::ProvedPointStore) or a [`Hold`](crate::Hold) gives it: what is
     /// opened is well-formed, every call keeps it so, and nothing else reaches its memory.
     IllFormed,
-    /// 2: shape outside the bounds, on opening.
+    /// 2: shape outside the bounds, or not that of a product, on opening.
     Shape,
     /// 3: wrong length of a point or output slice.
     Length,
@@ -46,7 +46,7 @@ pub enum Refusal {
     PointsFull,
     /// 10: no float space, after compaction and growth.
     FloatSpaceFull,
-    /// 11: listed value too large, look-ahead above 65,535 or weight above 16,777,216.
+    /// 11: listed value or kind too large, look-ahead above 65,535 or weight above 16,777,216.
     ValueTooLarge,
     /// 12: sequence number at 4,294,967,295.
     SequenceFull,
@@ -56,12 +56,14 @@ pub enum Refusal {
     NotReleasable,
     /// 15: hold opened with a width of 0 or not below the capacity.
     HoldWidth,
+    /// 16: an absent reading of a probe with no earlier one.
+    NoEarlierReading,
     /// A number that this version of the crate does not know, from a later library.
     Other(u64),
 }
 
-/// The causes with the numbers 1 to 15, in order.
-const CAUSES: [Refusal; 15] = [
+/// The causes with the numbers 1 to 16, in order.
+const CAUSES: [Refusal; 16] = [
     Refusal::IllFormed,
     Refusal::Shape,
     Refusal::Length,
@@ -77,13 +79,14 @@ const CAUSES: [Refusal; 15] = [
     Refusal::ManagerCapacity,
     Refusal::NotReleasable,
     Refusal::HoldWidth,
+    Refusal::NoEarlierReading,
 ];
 
-/// The texts of the numbers 0 to 15, and last that of every other number: the words of the C header's
+/// The texts of the numbers 0 to 16, and last that of every other number: the words of the C header's
 /// `ps_refusal_text`.
-const TEXTS: [&str; 17] = [
+const TEXTS: [&str; 18] = [
     "accepted",
-    "ill-formed store, hold or manager, or a lent slice too short for its part",
+    "ill-formed store, hold, product or manager, or a lent slice too short for its part",
     "shape outside the bounds",
     "wrong length of a point or output slice",
     "label code above 23",
@@ -98,6 +101,7 @@ const TEXTS: [&str; 17] = [
     "manager capacity outside 1 to 1,024",
     "index free already, or not below the capacity",
     "hold width of 0, or not below the capacity",
+    "an absent reading of a probe with no earlier one",
     "no refusal of this library",
 ];
 
@@ -123,7 +127,7 @@ impl Refusal {
     pub(crate) fn of_number(number: u64) -> Result<()> {
         match number {
             0 => Ok(()),
-            1..=15 => Err(CAUSES[number as usize - 1]),
+            1..=16 => Err(CAUSES[number as usize - 1]),
             _ => Err(Refusal::Other(number)),
         }
     }
@@ -173,7 +177,7 @@ mod tests {
     #[test]
     fn every_number_stands_for_its_cause() {
         assert_eq!(Refusal::of_number(0), Ok(()));
-        for number in 1..=15 {
+        for number in 1..=16 {
             let refusal = Refusal::of_number(number).unwrap_err();
             assert_eq!(refusal, CAUSES[number as usize - 1]);
             assert_eq!(refusal.number(), number);
@@ -182,9 +186,9 @@ mod tests {
 
     #[test]
     fn an_unknown_number_is_kept() {
-        let refusal = Refusal::of_number(16).unwrap_err();
-        assert_eq!(refusal, Refusal::Other(16));
-        assert_eq!(refusal.number(), 16);
+        let refusal = Refusal::of_number(17).unwrap_err();
+        assert_eq!(refusal, Refusal::Other(17));
+        assert_eq!(refusal.number(), 17);
         assert_eq!(Refusal::of_number(u64::MAX), Err(Refusal::Other(u64::MAX)));
     }
 
@@ -195,12 +199,12 @@ mod tests {
         let (texts, _) = texts.split_once("\n}\n").unwrap();
         let texts: Vec<&str> = texts.split('"').skip(1).step_by(2).collect();
         assert_eq!(texts, TEXTS);
-        for number in 1..=15 {
+        for number in 1..=16 {
             let refusal = Refusal::of_number(number).unwrap_err();
             assert_eq!(refusal.text(), texts[number as usize]);
         }
-        assert_eq!(Refusal::Other(16).text(), texts[16]);
-        assert_eq!(Refusal::Other(u64::MAX).text(), texts[16]);
+        assert_eq!(Refusal::Other(17).text(), texts[17]);
+        assert_eq!(Refusal::Other(u64::MAX).text(), texts[17]);
     }
 
     #[test]

@@ -3,6 +3,7 @@
 use crate::hold::{hold_block_words, LentHold, LentHoldMemory};
 use crate::lent::LentPointStore;
 use crate::memory::{block_words, Lengths, LentMemory};
+use crate::probes::{probes_block_words, LentProbes};
 use crate::refusal::{Refusal, Result};
 use crate::sys;
 
@@ -140,6 +141,42 @@ impl Shape {
     /// the bounds.
     pub fn hold_block_words(&self) -> usize {
         self.check().map_or(0, |()| hold_block_words(self))
+    }
+
+    /// Opens a product for the eight-probe block, which owns its memory.
+    ///
+    /// ```
+    /// use point_store::{Refusal, Shape};
+    ///
+    /// let shape = Shape::new(16, 10).shingle_size(2).internal_shingling(true);
+    /// assert!(shape.open_probes().is_ok());
+    /// assert_eq!(shape.shingle_size(4).open_probes().unwrap_err(), Refusal::Shape);
+    /// assert_eq!(shape.internal_shingling(false).open_probes().unwrap_err(), Refusal::Shape);
+    /// ```
+    #[cfg(feature = "alloc")]
+    pub fn open_probes(&self) -> Result<crate::probes::Probes> {
+        crate::probes::Probes::opened(self)
+    }
+
+    /// [`Refusal::Shape`] for a shape outside the bounds, for another base than 8 and for no internal
+    /// shingling.
+    pub fn check_probes(&self) -> Result<()> {
+        // As for `check`.
+        match Refusal::of_number(sys::probes_open_nothing(self)) {
+            Err(Refusal::IllFormed) => Ok(()),
+            other => other,
+        }
+    }
+
+    /// How many words of 64 bits a block for [`LentMemory::in_probes_block`] has; 0 for a shape outside
+    /// the bounds.
+    pub fn probes_block_words(&self) -> usize {
+        self.check().map_or(0, |()| probes_block_words(self))
+    }
+
+    /// Opens a product in lent memory, whose record has [`PROBES_WORDS`](crate::PROBES_WORDS) words.
+    pub fn open_probes_in<'a>(&self, memory: LentMemory<'a>) -> Result<LentProbes<'a>> {
+        LentProbes::open(memory, self)
     }
 
     /// Opens a store in lent memory.

@@ -121,6 +121,27 @@ declare! { mut
         joined: &mut u64,
         place: &mut u64,
     );
+    ps_probes_open(
+        dimensions: usize,
+        shingle_size: usize,
+        capacity: usize,
+        initial_capacity: usize,
+        internal_shingling: usize,
+        internal_rotation: usize,
+        store_labels: usize,
+    );
+    ps_probes_set(
+        kinds: *const u8,
+        kinds_length: usize,
+        floats: *const u32,
+        floats_length: usize,
+        label: usize,
+        kept: &mut u64,
+        index: &mut u64,
+        label_index: &mut u64,
+        joined: &mut u64,
+        place: &mut u64,
+    );
 }
 
 declare! { const
@@ -157,6 +178,7 @@ declare! { const
         held_labels_length: usize,
         number: &mut u64,
     );
+    ps_probes_tallies(out: *mut u32, out_length: usize);
 }
 
 extern "C" {
@@ -632,6 +654,59 @@ pub fn hold_number(
             number
         )
     }
+}
+
+/// What an opening of a product says of the shape, lent nothing.
+pub fn probes_open_nothing(shape: &Shape) -> u64 {
+    probes_open(&mut no_memory(), shape)
+}
+
+// SAFETY, of each of the product's: what is borrowed beside the memory is read, or is an output or an
+// answer, borrowed to be changed.
+
+pub fn probes_open(memory: &mut LentMemory<'_>, shape: &Shape) -> u64 {
+    unsafe {
+        change!(
+            ps_probes_open,
+            memory,
+            shape.dimensions,
+            shape.shingle_size,
+            shape.capacity,
+            shape.initial_capacity,
+            usize::from(shape.internal_shingling),
+            usize::from(shape.internal_rotation),
+            usize::from(shape.store_labels)
+        )
+    }
+}
+
+pub fn probes_set(
+    memory: &mut LentMemory<'_>,
+    kinds: &[u8],
+    floats: &[f32],
+    label: usize,
+    answer: &mut AddAnswer,
+) -> u64 {
+    unsafe {
+        change!(
+            ps_probes_set,
+            memory,
+            kinds.as_ptr(),
+            kinds.len(),
+            floats.as_ptr().cast(),
+            floats.len(),
+            label,
+            &mut answer.kept,
+            &mut answer.index,
+            &mut answer.label_index,
+            &mut answer.joined,
+            &mut answer.place
+        )
+    }
+}
+
+pub fn probes_tallies(memory: &ReadMemory<'_>, out: &mut [u32]) -> u64 {
+    unsafe { read!(ps_probes_tallies, memory, out.as_mut_ptr(), out.len()) }
 }
 
 /// Calls a function of the manager that changes its record and a table, or both.

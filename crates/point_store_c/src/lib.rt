@@ -10,6 +10,8 @@ mod label_readings;
 mod manager;
 mod name;
 mod opening;
+mod probes_calls;
+mod probes_record;
 mod readings;
 mod record;
 mod rows;

@@ -20,6 +20,7 @@ pub enum Refusal {
     ManagerCapacity,
     NotReleasable,
     HoldWidth,
+    NoEarlierReading,
 }
 
 // The index of a point. A tuple struct of its own, so that a label's index cannot stand in its place.
@@ -59,5 +60,6 @@ pub fn refusal_number(r: Refusal) -> u64
         Refusal::ManagerCapacity => 13,
         Refusal::NotReleasable => 14,
         Refusal::HoldWidth => 15,
+        Refusal::NoEarlierReading => 16,
     }
 }

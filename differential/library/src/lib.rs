@@ -1,5 +1,6 @@
 //! The static library's calls: a slice goes over as a pointer and a length.
 pub mod hold;
+pub mod probes;
 pub mod store;
 
 mod c {

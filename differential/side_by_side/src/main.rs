@@ -4,6 +4,7 @@ mod coverage;
 mod hold;
 mod manager;
 mod mutant;
+mod probes;
 mod store;
 
 use std::panic;
@@ -19,6 +20,9 @@ fn parts() -> Result<(), String> {
     }
     if mutant::is_none_but(&mutant::OF_THE_HOLD) {
         hold::run()?;
+    }
+    if mutant::is_none_but(&mutant::OF_THE_PROBES) {
+        probes::run()?;
     }
     Ok(())
 }

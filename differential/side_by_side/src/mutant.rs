@@ -79,6 +79,21 @@ pub const OF_THE_HOLD: [&str; 12] = [
     "both-clear-the-floats-of-a-point-given-up",
 ];
 
+/// Sown in the product's part.
+pub const OF_THE_PROBES: [&str; 11] = [
+    "probes-repeat-the-first-float",
+    "probes-a-refused-set-tallies",
+    "probes-a-waiting-set-is-not-tallied",
+    "probes-refuse-16-after-4",
+    "probes-refuse-11-before-3",
+    "probes-take-a-tally-above-the-sequence",
+    "probes-take-another-base",
+    "harness-knows-no-absent-reading",
+    "harness-leaves-the-rust-out-of-the-probes",
+    "both-tally-absent-readings",
+    "both-repeat-a-zero",
+];
+
 fn sown() -> Option<&'static str> {
     static SOWN: OnceLock<Option<&'static str>> = OnceLock::new();
     *SOWN.get_or_init(|| {
@@ -87,6 +102,7 @@ fn sown() -> Option<&'static str> {
             .iter()
             .chain(&OF_THE_STORE)
             .chain(&OF_THE_HOLD)
+            .chain(&OF_THE_PROBES)
             .find(|m| **m == name);
         Some(*known.unwrap_or_else(|| panic!("no mutant {name}")))
     })

@@ -1,0 +1,103 @@
+-- A record comes back from its product, and an illegal record holds no product.
+use Prim.Native.Nat.{ℕ, _≤_, _<_}
+use mathlib.Core.Bool.{Bool, true, false}
+use mathlib.Core.List.{List}
+use mathlib.Core.Path.{_≡_, refl}
+use lib.Dec.{leb}
+use lib.ListN.{length, getD}
+use lib.Seq.{set-getD}
+use borrow.Author.Tests.{le-leb, lt-leb, leb-true, ltb-true}
+use Rattle.terms.specs.Below.{both}
+use Rattle.store_definitions.specs.declared.Store.{Store}
+use Rattle.store_definitions.specs.Bounds.{boundsHold}
+use Rattle.store_definitions.specs.Memory.{Memory}
+use Rattle.store_definitions.specs.WellFormed.{wellFormed}
+use Rattle.probes_definitions.specs.declared.Probes.{Probes}
+use Rattle.probes_definitions.specs.Opening.{noProbes}
+use Rattle.probes_definitions.specs.Memory.{pointProbes}
+use Rattle.probes_definitions.specs.WellFormed.{probesWellFormed}
+use Rattle.point_store_c.specs.Records.{storeOut, storeIn, recorded}
+use Rattle.point_store_c.specs.RecordLaws.{record-kept}
+use Rattle.point_store_c.specs.ProbesRecords.{probesOut, talliesOut, legalTallies, legalProbes, talliesRead, probesIn, probesRecorded}
+
+-- ---- what the code's tests show
+
+pub record TalliesFit (words : List ℕ) : Type 0 where
+  pub long : 23 ≤ length words
+  pub fit-0 : getD words 15 0 < 4294967296
+  pub fit-1 : getD words 16 0 < 4294967296
+  pub fit-2 : getD words 17 0 < 4294967296
+  pub fit-3 : getD words 18 0 < 4294967296
+  pub fit-4 : getD words 19 0 < 4294967296
+  pub fit-5 : getD words 20 0 < 4294967296
+  pub fit-6 : getD words 21 0 < 4294967296
+  pub fit-7 : getD words 22 0 < 4294967296
+
+module _ (words : List ℕ) where
+  pub short-illegal : length words < 23 → false ≡ legalProbes words
+  unfolding legalProbes
+  short-illegal l = rw (lt-leb 23 (length words) l)
+
+  pub long-legal : 23 ≤ length words → legalTallies words ≡ legalProbes words
+  unfolding legalProbes
+  long-legal l = rw (le-leb 23 (length words) l)
+
+  pub legal : legalProbes words ≡ true → TalliesFit words
+  unfolding legalProbes legalTallies
+  legal e =
+      let a = both (leb 23 (length words)) _ e in
+      let b0 = both _ _ (a .1) in
+      let b1 = both _ _ (b0 .1) in
+      let b2 = both _ _ (b1 .1) in
+      let b3 = both _ _ (b2 .1) in
+      let b4 = both _ _ (b3 .1) in
+      let b5 = both _ _ (b4 .1) in
+      let b6 = both _ _ (b5 .1) in
+      record {
+        long = leb-true 23 (length words) (a .0);
+        fit-0 = ltb-true (getD words 15 0) 4294967296 (b0 .0);
+        fit-1 = ltb-true (getD words 16 0) 4294967296 (b1 .0);
+        fit-2 = ltb-true (getD words 17 0) 4294967296 (b2 .0);
+        fit-3 = ltb-true (getD words 18 0) 4294967296 (b3 .0);
+        fit-4 = ltb-true (getD words 19 0) 4294967296 (b4 .0);
+        fit-5 = ltb-true (getD words 20 0) 4294967296 (b5 .0);
+        fit-6 = ltb-true (getD words 21 0) 4294967296 (b6 .0);
+        fit-7 = ltb-true (getD words 22 0) 4294967296 (b6 .1);
+      }
+
+  module _ (e : legalProbes words ≡ true) where
+    pub legal-read : (s : Store) → s ≡ storeIn words → (ts : List ℕ) → ts ≡ talliesRead words → _≡_ {A = Probes} (record { store = s; tallies = ts }) (probesIn words)
+    unfolding probesIn
+    legal-read s q ts r = rw (e, q, r)
+
+    pub legal-recorded : (p : Probes) (words′ : List ℕ) → words′ ≡ recorded words (p .store) → talliesOut words′ (p .tallies) ≡ probesRecorded words p
+    unfolding probesRecorded
+    legal-recorded p words′ q = rw (e, q)
+
+  module _ (e : legalProbes words ≡ false) where
+    pub illegal-read : noProbes ≡ probesIn words
+    unfolding probesIn
+    illegal-read = rw e
+
+    pub illegal-recorded : (p : Probes) → words ≡ probesRecorded words p
+    unfolding probesRecorded
+    illegal-recorded p = rw e
+
+-- the words of the store, then the tallies
+pub eight-more : (words words′ : List ℕ) (p : Probes) → words′ ≡ storeOut words (p .store) → talliesOut words′ (p .tallies) ≡ probesOut words p
+unfolding storeOut probesOut talliesOut
+eight-more words words′ p e = rw e
+
+-- a call that leaves the product leaves the record
+pub probes-record-kept : (words : List ℕ) → probesRecorded words (probesIn words) ≡ words
+unfolding probesRecorded probesIn talliesOut
+probes-record-kept words = go (legalProbes words) refl
+  where
+    go : (b : Bool) → legalProbes words ≡ b → probesRecorded words (probesIn words) ≡ words
+    go true e = rw (e, record-kept words, set-getD words 15 0, set-getD words 16 0, set-getD words 17 0, set-getD words 18 0, set-getD words 19 0, set-getD words 20 0, set-getD words 21 0, set-getD words 22 0)
+    go false e = rw e
+
+-- an illegal record holds an ill-formed product, which every call refuses with 1
+pub illegal-probes-ill-formed : (words : List ℕ) (m : Memory ℕ) → legalProbes words ≡ false → probesWellFormed (pointProbes (probesIn words) m) ≡ false
+unfolding probesIn probesWellFormed wellFormed boundsHold
+illegal-probes-ill-formed words m e = rw e refl

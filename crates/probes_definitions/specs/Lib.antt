@@ -1,0 +1,14 @@
+pub mod Memory
+pub mod Answers
+pub mod Readings
+pub mod WellFormed
+pub mod Opening
+pub mod Setting
+pub mod Tallies
+pub mod ReadingLaws
+pub mod Sound
+pub mod WindowAfter
+pub mod SettingLaws
+pub mod OpeningLaws
+pub mod Cases
+pub mod EachClause
