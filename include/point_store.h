@@ -15,6 +15,7 @@
  *                    its count is 0 again, and is then given to a later add.
  *   place            where a live point's floats stand, in units of base: its row begins at float place x base of the lent floats.
  *                    65,535 is the empty place.
+ *   equal            floats are equal where their 32 bits are: -0.0 is not equal to 0.0, and a NaN is to a NaN of the same bits.
  *   joined, whole    a row whose first floats equal the last ones before the free start shares them and is joined: only its last
  *                    base floats are written. Else it is laid whole. The free start is the float at which the next row is written.
  *   growth           indices and floats are first those of `initial_capacity` points. An add that finds no index free, or no float
@@ -75,9 +76,9 @@ extern "C" {
 
 /* The version of this header. ps_version_agrees() tells whether the archive has the same. */
 #define PS_VERSION_MAJOR 0
-#define PS_VERSION_MINOR 5
+#define PS_VERSION_MINOR 7
 #define PS_VERSION_PATCH 0
-#define PS_VERSION "0.5.0"
+#define PS_VERSION "0.7.0"
 
 /* The sizes that the declarations below rely on; where one differs, the line does not compile. */
 typedef char ps_size_t_has_8_bytes[sizeof(size_t) == 8 ? 1 : -1];
@@ -569,7 +570,7 @@ static inline uint64_t ps_store_free_start(const struct ps_store *s, uint64_t *n
     return ps_free_start(PS_LENT_(s), number);
 }
 
-/* Whether a point equals the copy of an index, by float ==: `equal` gets 0 or 1. Refused with 1, 5, 3. */
+/* Whether a point equals the copy of an index, bit for bit: `equal` gets 0 or 1. Refused with 1, 5, 3. */
 static inline uint64_t ps_store_is_equal(
     const struct ps_store *s, size_t index, const float *point, size_t point_len, uint64_t *equal) {
     if (!s || !equal || PS_MISSING_(point, point_len))

@@ -216,6 +216,28 @@ static void readings(int rotation) {
     IS(ps_store_label(&s, 0, &n), 6);
 }
 
+/* equality is that of the bits: a zero's sign counts, and a NaN is a NaN of the same bits */
+static void equality(void) {
+    static const float zero[4] = {5, 6, 0.0f, 7}, minus_zero[4] = {5, 6, -0.0f, 7};
+    static const uint32_t nan_bits = 0x7fc00001;
+    float nan, after[4] = {0, 7, 0, 8};
+    memcpy(&nan, &nan_bits, sizeof nan);
+    three_adds(0);
+    IS(add_two(0, 7, 0), 0);
+    kept(2, 1, 2, 8);
+    IS(ps_store_is_equal(&s, 2, zero, 4, &n), 0);
+    IS(n, 1);
+    IS(ps_store_is_equal(&s, 2, minus_zero, 4, &n), 0);
+    IS(n, 0);
+    IS(add_two(nan, 8, 0), 0);
+    kept(3, 1, 3, 10);
+    IS(add_two(9, 10, 0), 0);
+    kept(4, 1, 4, 12);
+    after[2] = nan;
+    IS(ps_store_is_equal(&s, 3, after, 4, &n), 0);
+    IS(n, 1);
+}
+
 static void labels(void) {
     static const unsigned char classes[24] = {0, 0, 0, 1, 1, 2, 2, 2, 3, 3, 4, 4, 5, 5, 5, 6, 6, 6, 7, 7, 8, 8, 9, 9};
     size_t code, i, k;
@@ -333,6 +355,7 @@ int main(void) {
     turned_whole();
     readings(0);
     readings(1);
+    equality();
     labels();
     hold();
     manager();

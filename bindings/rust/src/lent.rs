@@ -311,7 +311,7 @@ impl<'a> LentPointStore<'a> {
         self.memory.read().free_start()
     }
 
-    /// Whether `point` equals what [`copy`](Self::copy) gives, entry by entry as floats.
+    /// Whether `point` equals what [`copy`](Self::copy) gives, entry by entry by the 32 bits.
     pub fn is_equal(&self, point: &[f32], index: usize) -> Result<bool> {
         self.memory.read().is_equal(point, index)
     }

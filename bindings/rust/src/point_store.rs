@@ -69,15 +69,16 @@ where
     /// The point at a live index; in a rotating store turned by its place.
     fn copy(&self, index: usize) -> Result<Vec<f32>>;
 
-    /// Whether `point` equals what [`copy`](PointStore::copy) gives, entry by entry as floats.
+    /// Whether `point` equals what [`copy`](PointStore::copy) gives, entry by entry by the 32 bits:
+    /// -0.0 is not 0.0, and a NaN equals a NaN of the same bits.
     ///
     /// ```
     /// # use point_store::{PointStore, ProvedPointStore};
     /// # fn main() -> point_store::Result<()> {
     /// let mut store = ProvedPointStore::new(2, 1, 4, 4, false, false, false, false)?;
-    /// let (index, _, _) = store.add(&[0.0, 21.5], 0)?;
-    /// assert!(store.is_equal(&[-0.0, 21.5], index)?);
-    /// assert!(!store.is_equal(&[f32::NAN, 21.5], index)?);
+    /// let (index, _, _) = store.add(&[0.0, f32::NAN], 0)?;
+    /// assert!(store.is_equal(&[0.0, f32::NAN], index)?);
+    /// assert!(!store.is_equal(&[-0.0, f32::NAN], index)?);
     /// # Ok(())
     /// # }
     /// ```

@@ -34,14 +34,16 @@ fn bits_come_back_as_they_were() {
 }
 
 #[test]
-fn equality_is_that_of_floats() {
+fn equality_is_that_of_bits() {
+    let [nan, other_nan] = [0x7fc0_0001, 0x7fc0_0002].map(f32::from_bits);
     let mut store = ProvedPointStore::new(2, 1, 4, 4, false, false, false, false).unwrap();
     store.add(&[0.0, 1.0], 0).unwrap();
-    store.add(&[f32::NAN, 1.0], 0).unwrap();
+    store.add(&[nan, 1.0], 0).unwrap();
     assert_eq!(store.is_equal(&[0.0, 1.0], 0), Ok(true));
-    assert_eq!(store.is_equal(&[-0.0, 1.0], 0), Ok(true));
+    assert_eq!(store.is_equal(&[-0.0, 1.0], 0), Ok(false));
     assert_eq!(store.is_equal(&[0.0, 1.5], 0), Ok(false));
-    assert_eq!(store.is_equal(&[f32::NAN, 1.0], 1), Ok(false));
+    assert_eq!(store.is_equal(&[nan, 1.0], 1), Ok(true));
+    assert_eq!(store.is_equal(&[other_nan, 1.0], 1), Ok(false));
 }
 
 #[test]
@@ -55,12 +57,21 @@ fn equality_is_with_the_turned_copy() {
 }
 
 #[test]
-fn a_nan_row_is_not_joined() {
+fn a_nan_row_is_joined() {
     let mut store = ProvedPointStore::new(2, 2, 4, 4, true, false, false, false).unwrap();
     for reading in [1.0, f32::NAN, 2.0] {
         store.add(&[reading], 0).unwrap();
     }
+    assert_eq!(store.free_start(), Ok(3));
+}
+
+#[test]
+fn a_zero_of_the_other_sign_is_not_joined() {
+    let mut store = ProvedPointStore::new(2, 2, 4, 4, false, false, false, false).unwrap();
+    store.add(&[1.0, 0.0], 0).unwrap();
+    let (index, _, _) = store.add(&[-0.0, 2.0], 0).unwrap();
     assert_eq!(store.free_start(), Ok(4));
+    assert!(store.copy(index).unwrap()[0].is_sign_negative());
 }
 
 #[test]

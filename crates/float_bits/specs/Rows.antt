@@ -11,7 +11,7 @@ use lib.Ieee.Exact.{HasValue}
 use Rattle.terms.specs.Rows.{allEqual}
 use Rattle.float_bits.specs.Words.{floatOf, wordsEqual}
 
--- the same length, and float `==` at each place
+-- the same length, and the same word at each place
 abbrev pub rowsEqual : List ℕ → List ℕ → Bool
 rowsEqual a b = allEqual wordsEqual a b
 

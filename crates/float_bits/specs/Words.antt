@@ -3,7 +3,10 @@ use Prim.Native.Nat.{ℕ}
 use mathlib.Core.Path.{_≡_, refl}
 use mathlib.Core.Bool.{Bool, false}
 use lib.IntN.{pos}
-use lib.Ieee.{Float, fin, binary32, eq, ofBits, toBits, nanBits}
+use lib.Dec.{eqb}
+use lib.Ieee.{Float, fin, binary32, ofBits, toBits, nanBits}
+use borrow.Author.Tests.{eqb-true}
+use Rattle.terms.specs.Rows.{Exact}
 
 -- the float that a word holds: there is one NaN, and every NaN's word holds it
 abbrev pub floatOf : ℕ → Float
@@ -17,9 +20,14 @@ wordOf x = toBits binary32 x
 abbrev pub nanWord : ℕ → Bool
 nanWord w = nanBits binary32 w
 
--- float `==` of the floats that two words hold
+-- document 02, Point 5: 'equality of the 32 bits: −0.0 no longer matches 0.0, and a NaN matches a NaN of the same bits'
 unfoldable pub wordsEqual : ℕ → ℕ → Bool
-wordsEqual a b = eq (floatOf a) (floatOf b)
+wordsEqual a b = eqb a b
+
+-- so equal words are the same word
+pub words-exact : Exact wordsEqual
+unfolding wordsEqual
+words-exact a b e = eqb-true a b e
 
 -- the words of 0.0, with which a store is filled, and of −0.0
 abbrev pub plusZero : ℕ

@@ -1,5 +1,4 @@
-// Binary32 floats held as their 32 bits: float equality of words and of rows, conversion both ways, and a scaled row
-// added to sums.
+// Binary32 floats held as their 32 bits: equality of rows, conversion both ways, and a scaled row added to sums.
 //
 // The logic has one NaN and no payload, so what must come back bit for bit is held and moved as words; a float is made
 // of a word where there is something to compute.
@@ -7,7 +6,7 @@ use terms::FloatBits;
 ghost use mathlib.Core.Path.{_≡_};
 ghost use Prim.Native.Nat.{_<_, _≤_, _^_};
 ghost use lib.ListN.{length};
-ghost use Rattle.float_bits.specs.Words.{floatOf, wordOf, nanWord, wordsEqual};
+ghost use Rattle.float_bits.specs.Words.{floatOf, wordOf, nanWord};
 ghost use Rattle.float_bits.specs.Rows.{rowsEqual, addScaled};
 
 // The weight of the sign's bit: below it stand the exponent and the digits.
@@ -19,23 +18,13 @@ const INFINITY: FloatBits = 0x7f80_0000;
 // The word that stands for a NaN that was computed.
 const NAN: FloatBits = 0x7fc0_0000;
 
-// How many floats of a row are compared before the answer is looked at.
+// How many words of a row are compared before the answer is looked at.
 const BLOCK: usize = 16;
 
 pub fn is_nan_word(w: FloatBits) -> bool
     ensures { λ r. ⌜ r ≡ nanWord w ⌝ }
 {
     w % SIGN > INFINITY
-}
-
-// Float `==`: no NaN equals itself, and the two zeros equal each other.
-pub fn words_equal(a: FloatBits, b: FloatBits) -> bool
-    ensures { λ r. ⌜ r ≡ wordsEqual a b ⌝ }
-{
-    if a == b {
-        return !is_nan_word(a);
-    }
-    (a % SIGN == 0) & (b % SIGN == 0)
 }
 
 pub fn float_of_word(w: FloatBits) -> f32
@@ -62,7 +51,7 @@ fn block_equal(a: &[FloatBits], b: &[FloatBits]) -> bool
     let mut equal = true;
     let mut i = 0;
     while i < a.len() {
-        equal = equal & words_equal(a[i], b[i]);
+        equal = equal & (a[i] == b[i]);
         i += 1;
     }
     equal
@@ -80,7 +69,7 @@ fn block_end(from: usize, length: usize) -> usize
     }
 }
 
-// Float `==` at every place of two rows.
+// The same word at every place of two rows.
 pub fn rows_equal(a: &[FloatBits], b: &[FloatBits]) -> bool
     requires { ⌜ length (now a) ≡ length (now b) ⌝ }
     ensures { λ r. ⌜ r ≡ rowsEqual (now (a .entry)) (now (b .entry)) ⌝ }

@@ -10,8 +10,8 @@ use lib.Seq.{getD-take}
 use lib.Dec.{eqb, ltb}
 use borrow.Author.Tests.{ne-eqb, eqb-true, eqb-false, ltb-false}
 use Rattle.terms.specs.Below.{positive}
+use Rattle.terms.specs.Rows.{Exact}
 use Rattle.interval_store_manager.specs.Calls.{Decided, go, refuse, changed}
-use Rattle.placement.specs.Alike.{Alike}
 use Rattle.placement.specs.Copying.{turn, turned, copied}
 use Rattle.placement.specs.Growth.{grown, grown-within}
 use Rattle.placement.specs.Laying.{placeOf}
@@ -137,13 +137,12 @@ module _ {E : Type 0} (eq : E → E → Bool) (zeroElement : E) (h : Shape) (the
         ∙ room-copy zeroElement u (w .table-within) (rowsOf p) (w .rows) i (r .live-below i e) (live-point eq h then s p w r i e)
 
     -- the new row's copy
-    new-copy : Alike eq (copied (u .«internal_rotation») (u .dimensions) (baseOf u) place (laidRows eq u room row .elements)) (turned (h .dimensions) (turn (h .«internal_rotation») (h .dimensions) (h .dimensions / h .«shingle_size») place) (rowOfAdd h (point ∷ s .points)))
+    new-copy : Exact eq → copied (u .«internal_rotation») (u .dimensions) (baseOf u) place (laidRows eq u room row .elements) ≡ turned (h .dimensions) (turn (h .«internal_rotation») (h .dimensions) (h .dimensions / h .«shingle_size») place) (rowOfAdd h (point ∷ s .points))
     unfolding laidRows laidHow
-    new-copy =
-        subst (Alike eq (copied (u .«internal_rotation») (u .dimensions) (baseOf u) place (laidRows eq u room row .elements)))
-        (turned-as (u .dimensions) (h .dimensions) (u .«shingle_size») (h .«shingle_size») (u .«internal_rotation») (h .«internal_rotation») (r .fits .dimensions) (r .fits .shingle) (r .fits .rotation) place row
-        ∙ ap (turned (h .dimensions) (turn (h .«internal_rotation») (h .dimensions) (h .dimensions / h .«shingle_size») place)) (row-is (k .accepted .sized) full))
-        (copy-laid eq (u .dimensions) (baseOf u) (joins eq u room row) (room .free) (room .elements) row _ (laying eq u room row (w .bounds) room-rows sized fits) (u .«internal_rotation»))
+    new-copy exact =
+        copy-laid eq (u .dimensions) (baseOf u) (joins eq u room row) (room .free) (room .elements) row _ (laying eq u room row (w .bounds) room-rows sized fits) (u .«internal_rotation») exact
+        ∙ turned-as (u .dimensions) (h .dimensions) (u .«shingle_size») (h .«shingle_size») (u .«internal_rotation») (h .«internal_rotation») (r .fits .dimensions) (r .fits .shingle) (r .fits .rotation) place row
+        ∙ ap (turned (h .dimensions) (turn (h .«internal_rotation») (h .dimensions) (h .dimensions / h .«shingle_size») place)) (row-is (k .accepted .sized) full)
 
     module _ (l : Labels) (v : Sound (withLabels l p)) where
       abbrev laid : PointStore E

@@ -164,5 +164,8 @@ listZeros = add (minusZero ∷ 2 ∷ []) 0 ∷ add (1 ∷ plusZero ∷ []) 0 ∷
 abbrev pub aNaN : ℕ
 aNaN = 0x7fc0_0001
 
+abbrev pub otherNaN : ℕ
+otherNaN = 0x7fc0_0002
+
 abbrev pub listNaN : List (Call ℕ)
 listNaN = add (aNaN ∷ 2 ∷ []) 0 ∷ add (1 ∷ aNaN ∷ []) 0 ∷ []

@@ -5,7 +5,6 @@ use mathlib.Core.Bool.{true, false}
 use mathlib.Core.List.{[], _∷_}
 use mathlib.Core.Path.{_≡_, refl}
 use lib.ListN.{take, replicate}
-use lib.Ieee.{eq, ofFields, ofBits}
 use Rattle.terms.specs.Below.{everyBelow, sumBelow, countBelow}
 use Rattle.terms.specs.Rows.{allEqual}
 use Rattle.terms.specs.Search.{firstBelow}
@@ -39,7 +38,7 @@ use Rattle.guarantee.specs.Calls.{copyCall, countCall, liveNumberCall, f
 use Rattle.guarantee.specs.Run.{add, inc, dec, compact, after}
 use Rattle.guarantee.specs.History.{dead, alive, pairChanges, pairsChanges, joinedPoints, rowOfAdd, changedBy, recorded, history}
 use Rattle.guarantee.specs.Guarantee.{numberIn, liveIndices}
-use Rattle.guarantee.specs.CaseLists.{plain, turning, smallPlain, smallTurning, smallLabelled, fresh, past, store, answer, gave, listA, listB, listC, listFour, listD, listG, listAdjust, refusedAdjust, listInsert, listSmall, third, listLabelled, listZeros, aNaN, listNaN}
+use Rattle.guarantee.specs.CaseLists.{plain, turning, smallPlain, smallTurning, smallLabelled, fresh, past, store, answer, gave, listA, listB, listC, listFour, listD, listG, listAdjust, refusedAdjust, listInsert, listSmall, third, listLabelled, listZeros, aNaN, otherNaN, listNaN}
 
 -- the clauses on these lists, computed
 pub record Computed : Type 0 where
@@ -77,15 +76,16 @@ pub record Computed : Type 0 where
   pub label-not-used : answer smallLabelled (inc 0 1) listLabelled ≡ refused 6
   pub label-kept : answer smallLabelled (add (5 ∷ 6 ∷ []) 0) listLabelled ≡ kept 1 1 (Whole 2)
   pub a-labelled : countCall (store smallLabelled listLabelled) 0 ≡ is 2
-  -- 0.0 and −0.0 are equal: the row is joined, and its zero takes the other sign
-  pub zeros-joined : answer smallPlain (add (minusZero ∷ 2 ∷ []) 0) (add (1 ∷ plusZero ∷ []) 0 ∷ []) ≡ kept 1 none (Joined 1)
-  pub c-zeros : copyCall (store smallPlain listZeros) 1 (replicate 2 0) .out ≡ plusZero ∷ 2 ∷ []
-  -- a NaN equals nothing: the row is laid whole, and its word comes back
-  pub nan-whole : answer smallPlain (add (aNaN ∷ 2 ∷ []) 0) (add (1 ∷ aNaN ∷ []) 0 ∷ []) ≡ kept 1 none (Whole 2)
+  -- −0.0 does not join 0.0: the row is laid whole, and its zero keeps its sign
+  pub zeros-whole : answer smallPlain (add (minusZero ∷ 2 ∷ []) 0) (add (1 ∷ plusZero ∷ []) 0 ∷ []) ≡ kept 1 none (Whole 2)
+  pub c-zeros : copyCall (store smallPlain listZeros) 1 (replicate 2 0) .out ≡ minusZero ∷ 2 ∷ []
+  -- a NaN joins a NaN of the same bits, and its word comes back; one of other bits does not
+  pub nan-joined : answer smallPlain (add (aNaN ∷ 2 ∷ []) 0) (add (1 ∷ aNaN ∷ []) 0 ∷ []) ≡ kept 1 none (Joined 1)
+  pub other-nan-whole : answer smallPlain (add (otherNaN ∷ 2 ∷ []) 0) (add (1 ∷ aNaN ∷ []) 0 ∷ []) ≡ kept 1 none (Whole 2)
   pub c-nan : copyCall (store smallPlain listNaN) 1 (replicate 2 0) .out ≡ aNaN ∷ 2 ∷ []
 
 pub computed : Computed
-unfolding fresh openedMemory opened after history recorded changedBy pairChanges pairsChanges joinedPoints rowOfAdd liveIndices everyBelow sumBelow countBelow allEqual pushed changed taken released inside holders isFree inBounds noneShared capacityAllowed stackLent managerWellFormed wrappingSub wrappingAdd alignment zerosBefore pointRoom holds liveBelow moved grownBlocks blocks blockMoves copiedDown settled blockDown blocksDown writtenByBlocks compacted turn turned copied grown writtenCount laidAs laidElements laidFree placeOf overlaps rowToLay movedWindow managed freeUncounted countsFit indexTaken lowered liveNumber codeDecided roomDecided incDecided decDecided raised incTest incremented incSpec pairDecided pairDone adjustFrom adjustSpec decTest placeAfterDec decremented decSpec compactedRows grownRows short roomMade compactSpec copyOf pointLength waits tableFull entriesFilled addDecided windowAfter sequenced rowOf labelGiven labelled tableGrown placed joins overflows laidRows laidHow keptAfter indexGiven keeps addSpec boundsHold rotationAllowed lentEnough formDecided live touchDecided tableLengthWell storeLengthWell freeStartWell emptyUncounted placesDistinct placesEnd sequenceWell wellFormed eq ofFields ofBits wordsEqual labelsLent labelsOpened labelsWell differ slotSum labelTaken slotTaken classSlot holdsClass tablesLent codesAllowed slotsHoldClasses classesDistinct slotsSummed labelRaised labelLowered firstBelow reasonClasses inUse liveNumberSpec freeStartSpec countSpec copyDecided copyWritten copySpec
+unfolding fresh openedMemory opened after history recorded changedBy pairChanges pairsChanges joinedPoints rowOfAdd liveIndices everyBelow sumBelow countBelow allEqual pushed changed taken released inside holders isFree inBounds noneShared capacityAllowed stackLent managerWellFormed wrappingSub wrappingAdd alignment zerosBefore pointRoom holds liveBelow moved grownBlocks blocks blockMoves copiedDown settled blockDown blocksDown writtenByBlocks compacted turn turned copied grown writtenCount laidAs laidElements laidFree placeOf overlaps rowToLay movedWindow managed freeUncounted countsFit indexTaken lowered liveNumber codeDecided roomDecided incDecided decDecided raised incTest incremented incSpec pairDecided pairDone adjustFrom adjustSpec decTest placeAfterDec decremented decSpec compactedRows grownRows short roomMade compactSpec copyOf pointLength waits tableFull entriesFilled addDecided windowAfter sequenced rowOf labelGiven labelled tableGrown placed joins overflows laidRows laidHow keptAfter indexGiven keeps addSpec boundsHold rotationAllowed lentEnough formDecided live touchDecided tableLengthWell storeLengthWell freeStartWell emptyUncounted placesDistinct placesEnd sequenceWell wellFormed wordsEqual labelsLent labelsOpened labelsWell differ slotSum labelTaken slotTaken classSlot holdsClass tablesLent codesAllowed slotsHoldClasses classesDistinct slotsSummed labelRaised labelLowered firstBelow reasonClasses inUse liveNumberSpec freeStartSpec countSpec copyDecided copyWritten copySpec
 computed =
     record {
       d-d = refl;
@@ -112,9 +112,10 @@ computed =
       label-not-used = refl;
       label-kept = refl;
       a-labelled = refl;
-      zeros-joined = refl;
+      zeros-whole = refl;
       c-zeros = refl;
-      nan-whole = refl;
+      nan-joined = refl;
+      other-nan-whole = refl;
       c-nan = refl;
     }
 
@@ -141,11 +142,11 @@ pub record Said : Type 0 where
   pub small-number : liveIndices 2 (past smallTurning (compact ∷ listSmall)) ≡ 1
   pub labelled : past smallLabelled listLabelled .life 0 ≡ alive 1 0 (gave (add (1 ∷ 2 ∷ []) 7 ∷ []) (1 ∷ 2 ∷ []) 0)
   pub labelled-gone : past smallLabelled listLabelled .life 1 ≡ dead
-  pub zeros : past smallPlain listZeros .life 1 ≡ alive 0 0 (gave listZeros (minusZero ∷ 2 ∷ []) 1)
-  pub nan : past smallPlain listNaN .life 1 ≡ alive 0 0 (gave listNaN (aNaN ∷ 2 ∷ []) 2)
+  pub zeros : past smallPlain listZeros .life 1 ≡ alive 0 0 (gave listZeros (minusZero ∷ 2 ∷ []) 2)
+  pub nan : past smallPlain listNaN .life 1 ≡ alive 0 0 (gave listNaN (aNaN ∷ 2 ∷ []) 1)
 
 pub said : Said
-unfolding fresh openedMemory opened after history recorded changedBy pairChanges pairsChanges joinedPoints rowOfAdd liveIndices everyBelow sumBelow countBelow allEqual pushed changed taken released inside holders isFree inBounds noneShared capacityAllowed stackLent managerWellFormed wrappingSub wrappingAdd alignment zerosBefore pointRoom holds liveBelow moved grownBlocks blocks blockMoves copiedDown settled blockDown blocksDown writtenByBlocks compacted turn turned copied grown writtenCount laidAs laidElements laidFree placeOf overlaps rowToLay movedWindow managed freeUncounted countsFit indexTaken lowered liveNumber codeDecided roomDecided incDecided decDecided raised incTest incremented incSpec pairDecided pairDone adjustFrom adjustSpec decTest placeAfterDec decremented decSpec compactedRows grownRows short roomMade compactSpec copyOf pointLength waits tableFull entriesFilled addDecided windowAfter sequenced rowOf labelGiven labelled tableGrown placed joins overflows laidRows laidHow keptAfter indexGiven keeps addSpec boundsHold rotationAllowed lentEnough formDecided live touchDecided tableLengthWell storeLengthWell freeStartWell emptyUncounted placesDistinct placesEnd sequenceWell wellFormed eq ofFields ofBits wordsEqual labelsLent labelsOpened labelsWell differ slotSum labelTaken slotTaken classSlot holdsClass tablesLent codesAllowed slotsHoldClasses classesDistinct slotsSummed labelRaised labelLowered firstBelow reasonClasses inUse
+unfolding fresh openedMemory opened after history recorded changedBy pairChanges pairsChanges joinedPoints rowOfAdd liveIndices everyBelow sumBelow countBelow allEqual pushed changed taken released inside holders isFree inBounds noneShared capacityAllowed stackLent managerWellFormed wrappingSub wrappingAdd alignment zerosBefore pointRoom holds liveBelow moved grownBlocks blocks blockMoves copiedDown settled blockDown blocksDown writtenByBlocks compacted turn turned copied grown writtenCount laidAs laidElements laidFree placeOf overlaps rowToLay movedWindow managed freeUncounted countsFit indexTaken lowered liveNumber codeDecided roomDecided incDecided decDecided raised incTest incremented incSpec pairDecided pairDone adjustFrom adjustSpec decTest placeAfterDec decremented decSpec compactedRows grownRows short roomMade compactSpec copyOf pointLength waits tableFull entriesFilled addDecided windowAfter sequenced rowOf labelGiven labelled tableGrown placed joins overflows laidRows laidHow keptAfter indexGiven keeps addSpec boundsHold rotationAllowed lentEnough formDecided live touchDecided tableLengthWell storeLengthWell freeStartWell emptyUncounted placesDistinct placesEnd sequenceWell wellFormed wordsEqual labelsLent labelsOpened labelsWell differ slotSum labelTaken slotTaken classSlot holdsClass tablesLent codesAllowed slotsHoldClasses classesDistinct slotsSummed labelRaised labelLowered firstBelow reasonClasses inUse
 said =
     record {
       a = refl;

@@ -6,12 +6,12 @@ use mathlib.Core.List.{List, [], _∷_}
 use mathlib.Core.Path.{_≡_}
 use lib.ListN.{length, getD}
 use Rattle.terms.specs.Below.{sumBelow, countBelow}
-use Rattle.placement.specs.Alike.{Alike}
+use Rattle.terms.specs.Rows.{Exact}
 use Rattle.placement.specs.Copying.{turn, turned}
 use Rattle.placement.specs.Growth.{grown}
 use Rattle.store_definitions.specs.declared.Shape.{Shape}
 use Rattle.store_definitions.specs.Memory.{PointStore}
-use Rattle.store_definitions.specs.Answers.{Answer, kept, waiting, done, is, says, refused, refusedAfter}
+use Rattle.store_definitions.specs.Answers.{Answer, kept, waiting, done, is, says, refused, refusedAfter, output}
 use Rattle.guarantee.specs.Calls.{copyCall, countCall, liveNumberCall, freeStartCall}
 use Rattle.guarantee.specs.Run.{Call, add, inc, dec, adjust, compact, after, answerTo}
 use Rattle.guarantee.specs.History.{Given, Life, dead, alive, count, isLive, History, history}
@@ -83,11 +83,10 @@ module _ {E : Type 0} (eq : E → E → Bool) (zeroElement : E) (h : Shape) (sta
     -- (b) each live index copies out, bit for bit, what it did right after that add
     pub copies-kept : (i : ℕ) (g : Given E) → LiveSince (past calls) i g
         → (out : List E) → copyCall (storeAfter calls) i out ≡ copyCall (storeAfter (g .calls)) i out
-    -- (c) that copy is the add's row, turned by the place in the add's answer, each element the same or equal
-    pub copies-row : (i : ℕ) (g : Given E) → LiveSince (past calls) i g
+    -- (c) that copy is the add's row exactly, turned by the place in the add's answer, for every element whose equality is exact
+    pub copies-row : Exact eq → (i : ℕ) (g : Given E) → LiveSince (past calls) i g
         → (out : List E) → length out ≡ h .dimensions
-        → (copyCall (storeAfter calls) i out .answer ≡ done)
-        × Alike eq (copyCall (storeAfter calls) i out .out) (turned (h .dimensions) (turn (h .«internal_rotation») (h .dimensions) base (g .place)) (g .row))
+        → copyCall (storeAfter calls) i out ≡ output done (turned (h .dimensions) (turn (h .«internal_rotation») (h .dimensions) base (g .place)) (g .row))
     -- (d) all live counts sum to kept adds plus accepted incs less accepted decs
     pub sum : sumBelow (h .capacity) (λ i. numberIn (countCall (storeAfter calls) i)) + past calls .decs ≡ past calls .adds + past calls .incs
     -- (e) live places are distinct and end by the free start

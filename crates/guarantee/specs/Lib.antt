@@ -19,5 +19,4 @@ pub mod EachCallKeeps
 pub mod Fresh
 pub mod FloatSpace
 pub mod Theorem
-pub mod FloatRows
 pub mod CasesGuaranteed

@@ -6,7 +6,7 @@ use mathlib.Core.Path.{_≡_}
 use lib.ListN.{length, getD, take, drop}
 use lib.Dec.{eqb}
 use Rattle.terms.specs.Below.{sumBelow}
-use Rattle.placement.specs.Alike.{Alike}
+use Rattle.terms.specs.Rows.{Exact}
 use Rattle.placement.specs.Copying.{turn, turned}
 use Rattle.store_definitions.specs.declared.Shape.{Shape}
 use Rattle.store_definitions.specs.declared.Store.{Store}
@@ -34,7 +34,7 @@ module _ {E : Type 0} (eq : E → E → Bool) (h : Shape) (then : Given E → Po
   -- a live index's copy: what it was right after the add that gave the index, and that add's row
   pub record CopyStands (i : ℕ) (g : Given E) (copy : List E) : Type 0 where
     pub as-then : (out : List E) → copySpec (then g) i out ≡ copyAnswer (h .dimensions) copy out
-    pub row : Alike eq copy (turned (h .dimensions) (turn (h .«internal_rotation») (h .dimensions) (h .dimensions / h .«shingle_size») (g .place)) (g .row))
+    pub row : Exact eq → copy ≡ turned (h .dimensions) (turn (h .«internal_rotation») (h .dimensions) (h .dimensions / h .«shingle_size») (g .place)) (g .row)
 
   pub record Relates (s : History E) (p : PointStore E) : Type 0 where
     pub fits : Fits h (p .header)

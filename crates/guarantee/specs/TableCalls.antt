@@ -10,8 +10,8 @@ use lib.Seq.{getD-set-same, getD-set-other}
 use lib.Dec.{eqb}
 use borrow.Author.Tests.{eq-eqb, ne-eqb}
 use Rattle.terms.specs.Below.{sumBelow, fails, sum-same}
+use Rattle.terms.specs.Rows.{Exact}
 use Rattle.terms.specs.Sums.{sum-changed}
-use Rattle.placement.specs.Alike.{Alike}
 use Rattle.placement.specs.Copying.{turn, turned, copied}
 use Rattle.labels.specs.Counted.{Counted, countAt, nextIndex, indexTaken}
 use Rattle.labels.specs.CountedLaws.{WellCounted, next-within, next-unused, take-keeps}
@@ -92,7 +92,7 @@ module _ {E : Type 0} (eq : E → E → Bool) (h : Shape) (then : Given E → Po
   own-copy = rw (getD-set-same location i place 65535 (omega (arith, below, grown .places-lent)))
 
   -- its copy right after the add
-  module _ (now : then g ≡ after) (sound : Sound after) (row : Alike eq (copied (p .header .«internal_rotation») (p .header .dimensions) (baseOf (p .header)) place (p .memory .store)) (turned (h .dimensions) (turn (h .«internal_rotation») (h .dimensions) (h .dimensions / h .«shingle_size») (g .place)) (g .row))) where
+  module _ (now : then g ≡ after) (sound : Sound after) (row : Exact eq → copied (p .header .«internal_rotation») (p .header .dimensions) (baseOf (p .header)) place (p .memory .store) ≡ turned (h .dimensions) (turn (h .«internal_rotation») (h .dimensions) (h .dimensions / h .«shingle_size») (g .place)) (g .row)) where
     listed : i < tableLength (after .header)
     unfolding placed
     listed = rw whole below

@@ -15,7 +15,7 @@ use Rattle.placement.specs.AlignmentLaws.{pointRoom}
 use Rattle.placement.specs.Growth.{grown}
 use Rattle.store_definitions.specs.declared.Shape.{Shape}
 use Rattle.store_definitions.specs.Memory.{Memory, PointStore}
-use Rattle.store_definitions.specs.Answers.{is, done, outcome, Output, output}
+use Rattle.store_definitions.specs.Answers.{is, done, outcome, output}
 use Rattle.store_definitions.specs.Parts.{tableLength, rowsOf, withRows}
 use Rattle.store_definitions.specs.Decisions.{touchDecided, live, carriedOut}
 use Rattle.store_definitions.specs.Counting.{countSpec, liveNumberSpec, freeStartSpec}
@@ -203,7 +203,7 @@ module _ {E : Type 0} (eq : E → E → Bool) (zeroElement : E) (h : Shape) (sta
           counts = counts calls holds;
           live-below = λ i e. omega (arith, r .live-below i e, r .fits .capacity, w calls holds .table-within);
           copies-kept = λ i g since out. copies calls holds i g since out ∙ sym (r .copies i g since .as-then out);
-          copies-row = λ i g since out sized. let e = whole-copy calls holds i g since out sized in (ap (λ (o : Output E). o .answer) e, rw e (r .copies i g since .row));
+          copies-row = λ exact i g since out sized. whole-copy calls holds i g since out sized ∙ ap (output done) (r .copies i g since .row exact);
           sum = sum calls holds;
           places-distinct = distinct calls holds;
           places-end = ends calls holds;

@@ -5,7 +5,7 @@ use mathlib.Core.Bool.{Bool}
 use mathlib.Core.List.{List, [], _∷_}
 use mathlib.Core.Path.{_≡_}
 use lib.ListN.{length}
-use Rattle.placement.specs.Alike.{Alike}
+use Rattle.terms.specs.Rows.{Exact}
 use Rattle.placement.specs.Copying.{turn, turned}
 use Rattle.store_definitions.specs.declared.Shape.{Shape}
 use Rattle.store_definitions.specs.Memory.{PointStore}
@@ -51,10 +51,9 @@ module _ {E : Type 0} (eq : E → E → Bool) (zeroElement : E) (s : Shape) (wid
     pub no-other : (i : ℕ) → times i (heldList adds) ≡ 0 → countCall (insideAfter adds) i ≡ refused 5
     -- copying each of them gives what copy gave right after its add
     pub copies-kept : Each (λ k. (out : List E) → copyCall (insideAfter adds) (k .index) out ≡ copyCall (insideAfter (k .adds)) (k .index) out) (heldAdds adds)
-    -- and that is the add's row, turned by the place in its answer, each element the same or equal
-    pub copies-row : Each
+    -- and that is the add's row exactly, turned by the place in its answer, where the equality is exact
+    pub copies-row : Exact eq → Each
         (λ k.
         (out : List E) → length out ≡ s .dimensions
-        → (copyCall (insideAfter adds) (k .index) out .answer ≡ done)
-        × Alike eq (copyCall (insideAfter adds) (k .index) out .out) (turned (s .dimensions) (turn (s .«internal_rotation») (s .dimensions) (s .dimensions / s .«shingle_size») (k .place)) (k .row)))
+        → copyCall (insideAfter adds) (k .index) out ≡ output done (turned (s .dimensions) (turn (s .«internal_rotation») (s .dimensions) (s .dimensions / s .«shingle_size») (k .place)) (k .row)))
         (heldAdds adds)

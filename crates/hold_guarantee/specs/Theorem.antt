@@ -6,7 +6,6 @@ use mathlib.Core.List.{List, [], _∷_}
 use mathlib.Core.Path.{_≡_, refl, sym, ap, subst, _∙_}
 use lib.ListN.{length}
 use borrow.Author.Tests.{eq-eqb}
-use Rattle.placement.specs.Alike.{Alike}
 use Rattle.placement.specs.Copying.{turn, turned}
 use Rattle.store_definitions.specs.declared.Shape.{Shape}
 use Rattle.store_definitions.specs.Memory.{PointStore}
@@ -193,8 +192,8 @@ module _ {E : Type 0} (eq : E → E → Bool) (zeroElement : E) (s : Shape) (wid
             each-with (LivesSince eq zeroElement s width start (calls adds)) (λ k. LivesSince eq zeroElement s width start (calls (k .adds)) k) _
             (λ k now then out. copy-then adds k now out ∙ sym (copy-then (k .adds) k then out))
             (heldAdds eq zeroElement s width start adds) (follow .lives) (follow .lived);
-        copies-row =
+        copies-row = λ exact.
             each-map (LivesSince eq zeroElement s width start (calls adds)) _
-            (λ k e out sized. subst (λ (p : PointStore E). (copyCall p (k .index) out .answer ≡ done) × Alike eq (copyCall p (k .index) out .out) (turned (s .dimensions) (turn (s .«internal_rotation») (s .dimensions) (s .dimensions / s .«shingle_size») (k .place)) (k .row))) (sym (follow .run)) (of-store adds .copies-row (k .index) (givenBy eq zeroElement start k) (0, 0, e) out sized))
+            (λ k e out sized. subst (λ (p : PointStore E). copyCall p (k .index) out ≡ output done (turned (s .dimensions) (turn (s .«internal_rotation») (s .dimensions) (s .dimensions / s .«shingle_size») (k .place)) (k .row))) (sym (follow .run)) (of-store adds .copies-row exact (k .index) (givenBy eq zeroElement start k) (0, 0, e) out sized))
             (heldAdds eq zeroElement s width start adds) (follow .lives);
       }

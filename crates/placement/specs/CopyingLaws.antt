@@ -1,4 +1,4 @@
--- Document 01's own sentence on a copy, and copies of rows that are alike.
+-- Document 01's own sentence on a copy.
 use mathlib.Core.Bool.{Bool, true, false}
 use mathlib.Core.List.{List, _++_}
 use mathlib.Core.Path.{_≡_, ap, _∙_}
@@ -8,7 +8,6 @@ use native.Mathlib.Decide.{decLt}
 use native.Mathlib.Omega.{arith}
 use lib.ListN.{length, take, drop, getD, length-take, length-drop, length-append, List·getD-append}
 use lib.Seq.{getD-append-add, getD-take, getD-drop}
-use Rattle.placement.specs.Alike.{Alike, alike-append, alike-take, alike-drop}
 use Rattle.placement.specs.Copying.{turn, turned, copied}
 use Rattle.placement.specs.Pieces.{length-piece}
 use Rattle.placement.specs.Row.{piece}
@@ -58,11 +57,3 @@ module _ {E : Type 0} (rotation : Bool) (dims base place : ℕ) (elements : List
   pub length-copied : length (copied rotation dims base place elements) ≡ dims
   unfolding copied
   length-copied = length-turned dims (turn rotation dims base place) (piece (place * base) dims elements) (length-piece (place * base) dims elements ends) (turn-within rotation)
-
--- rows that are alike are alike when turned
-pub alike-turned : {E : Type 0} (eq : E → E → Bool) (dims t : ℕ) (xs ys : List E) → Alike eq xs ys → Alike eq (turned dims t xs) (turned dims t ys)
-unfolding turned
-alike-turned eq dims t xs ys h =
-    alike-append eq (drop (dims - t) xs) (drop (dims - t) ys) (take (dims - t) xs) (take (dims - t) ys)
-    (alike-drop eq (dims - t) xs ys h)
-    (alike-take eq (dims - t) xs ys h)

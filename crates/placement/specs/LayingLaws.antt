@@ -10,10 +10,8 @@ use borrow.Author.Tests.{ltb-true}
 use lib.Dec.{ltb}
 use lib.ListN.{length, getD, set, length-set, take, drop, take-append-drop, length-drop}
 use lib.Seq.{getD-set-same, getD-set-other, paste, length-paste, drop-paste, length-take-le, take-all, take-at, drop-at}
-use Rattle.terms.specs.Rows.{allEqual}
-use Rattle.placement.specs.Alike.{Alike, alike-refl, alike-append, equal-alike}
+use Rattle.terms.specs.Rows.{allEqual, Exact, rows-same}
 use Rattle.placement.specs.Copying.{turn, turned, copied}
-use Rattle.placement.specs.CopyingLaws.{alike-turned}
 use Rattle.placement.specs.Laying.{writtenCount, laidAs, laidElements, laidFree, placeOf}
 use Rattle.placement.specs.Overlap.{overlaps}
 use Rattle.placement.specs.Pieces.{piece-join, piece-front}
@@ -28,7 +26,7 @@ pub record LayingKeeps {E : Type 0} (eq : E → E → Bool) (dims base : ℕ) (j
   pub free-whole : base ∣ laidFree dims base joined free
   pub ends : placeOf (laidAs dims base joined free) * base + dims ≡ laidFree dims base joined free
   pub rises : free < laidFree dims base joined free
-  pub same : Alike eq (piece (placeOf (laidAs dims base joined free) * base) dims after) row
+  pub same : Exact eq → piece (placeOf (laidAs dims base joined free) * base) dims after ≡ row
 
 -- a piece that lies before what was pasted, and the piece that was
 module _ {E : Type 0} (d : List E) (at : ℕ) (s : List E) (n : ℕ) (inside : at ≤ length d) (enough : n ≤ length s) where
@@ -90,11 +88,11 @@ module _ {E : Type 0} (eq : E → E → Bool) (dims base shingle free : ℕ) (el
     -- the part that is not written stands before the free start already
     shared : (joined : Bool) → overlaps eq shingle (dims - base) free elements row ≡ joined
         → (dims - writtenCount dims base joined ≤ free)
-        × Alike eq (piece (free - (dims - writtenCount dims base joined)) (dims - writtenCount dims base joined) elements) (take (dims - writtenCount dims base joined) row)
+        × (Exact eq → piece (free - (dims - writtenCount dims base joined)) (dims - writtenCount dims base joined) elements ≡ take (dims - writtenCount dims base joined) row)
     unfolding writtenCount
     shared true e =
-        (le-of-lt (overlap e .0), equal-alike eq (piece (free - (dims - base)) (dims - base) elements) (take (dims - base) row) (overlap e .1))
-    shared false e = rw sub-self (omega arith, tt)
+        (le-of-lt (overlap e .0), λ exact. rows-same eq exact (piece (free - (dims - base)) (dims - base) elements) (take (dims - base) row) (overlap e .1))
+    shared false e = rw sub-self (omega arith, λ exact. refl)
 
     module _ (joined : Bool) (e : overlaps eq shingle (dims - base) free elements row ≡ joined) (fits : free + writtenCount dims base joined ≤ length elements) where
       abbrev n : ℕ
@@ -135,23 +133,16 @@ module _ {E : Type 0} (eq : E → E → Bool) (dims base shingle free : ℕ) (el
             free-whole = dvd-add base whole (count-whole joined);
             ends = laid-ends joined e;
             rises = omega (arith, count-positive joined);
-            same =
-                rw (at, point)
-                (subst (Alike eq (piece (free - (dims - n)) (dims - n) elements ++ last)) (take-append-drop (dims - n) row)
-                (alike-append eq (piece (free - (dims - n)) (dims - n) elements) (take (dims - n) row) last last (shared joined e .1) (alike-refl eq last)));
+            same = λ exact. rw at (point ∙ ap (λ (l : List E). l ++ last) (shared joined e .1 exact) ∙ take-append-drop (dims - n) row);
           }
 
 -- ---- copies afterwards
 
 module _ {E : Type 0} (eq : E → E → Bool) (dims base : ℕ) (joined : Bool) (free : ℕ) (elements row after : List E) (down : LayingKeeps eq dims base joined free elements row after) (rotation : Bool) where
   -- the new point's copy is the row, turned
-  pub copy-laid : Alike eq (copied rotation dims base (placeOf (laidAs dims base joined free)) after) (turned dims (turn rotation dims base (placeOf (laidAs dims base joined free))) row)
+  pub copy-laid : Exact eq → copied rotation dims base (placeOf (laidAs dims base joined free)) after ≡ turned dims (turn rotation dims base (placeOf (laidAs dims base joined free))) row
   unfolding copied
-  copy-laid =
-      alike-turned eq dims (turn rotation dims base (placeOf (laidAs dims base joined free)))
-      (piece (placeOf (laidAs dims base joined free) * base) dims after)
-      row
-      (down .same)
+  copy-laid exact = ap (turned dims (turn rotation dims base (placeOf (laidAs dims base joined free)))) (down .same exact)
 
   -- any other point's copy is what it was
   pub copy-before : (place : ℕ) → place * base + dims ≤ free → copied rotation dims base place after ≡ copied rotation dims base place elements

@@ -16,7 +16,6 @@ pub mod StepsLaw
 pub mod ProgressLaws
 pub mod Scan
 pub mod CompactionLaws
-pub mod Alike
 pub mod LayingLaws
 pub mod InPlace
 pub mod Scanned

@@ -1,6 +1,6 @@
 // Rows of 32-bit float words in lent slices: which row is laid, whether it joins the one before it, how it is laid and copied
 // out, how the store and the point table grow, and compaction in one pass. Each function does what its definition in
-// `placement` says, at words and their float equality. The slices may be longer than what the store has in use: what lies
+// `placement` says, at words and their equality. The slices may be longer than what the store has in use: what lies
 // past that is left as it is.
 mod compaction;
 mod copying;

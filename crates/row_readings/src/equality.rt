@@ -1,4 +1,4 @@
-// Whether a point equals the copy of a stored row, by float `==`.
+// Whether a point equals the copy of a stored row, word by word.
 use float_bits::rows_equal;
 use placement_rows::turned_by;
 use store_counts::point_in_use;

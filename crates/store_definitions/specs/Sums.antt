@@ -23,7 +23,8 @@ answers go b = says b
 answers (refuse n) b = refused n
 
 module _ {E : Type 0} (eq : E → E → Bool) where
-  -- 'is_equal compares copy and point by float ==.' Of a store that is checked
+  -- 'is_equal compares copy and point by float ==', in whose place document 02, Point 5, puts 'equality of the 32 bits'. Of a store that is
+  -- checked
   unfoldable pub equality : PointStore E → ℕ → List E → Answer
   equality p i point = answers (copyDecided p i (length point)) (allEqual eq (copyOf p i) point)
 

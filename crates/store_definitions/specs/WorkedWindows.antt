@@ -7,7 +7,7 @@ use mathlib.Core.Path.{_≡_, refl}
 use lib.ListN.{take, replicate}
 use lib.Dec.{eqb}
 use lib.IntN.{pos}
-use lib.Ieee.{binary32, eq, ofInt, ofFields, ofBits, toBits}
+use lib.Ieee.{binary32, ofInt, toBits}
 use Rattle.placement.specs.declared.Laid.the-variants.{Whole, Joined}
 use Rattle.terms.specs.Below.{one, everyBelow, sumBelow, countBelow}
 use Rattle.terms.specs.Rows.{allEqual}
@@ -251,5 +251,5 @@ hold (c ∷ cs) = agree (ran c) (c .said) && hold cs
 
 -- every case gives what is said of it
 worked-windows : hold cases ≡ true
-unfolding shape rubbish floats called run ran copies cases numbers same alike agree hold eq ofInt ofFields ofBits toBits wordsEqual everyBelow sumBelow countBelow allEqual pushed changed taken released inside holders isFree inBounds noneShared capacityAllowed stackLent managerWellFormed wrappingSub wrappingAdd alignment zerosBefore holds liveBelow moved grownBlocks blocks blockMoves copiedDown settled blockDown blocksDown writtenByBlocks compacted turn turned copied grown writtenCount laidAs laidElements laidFree placeOf overlaps rowToLay movedWindow managed freeUncounted countsFit indexTaken lowered codeDecided roomDecided decDecided openDecided openedMemory opened openSpec decTest placeAfterDec decremented decSpec compactedRows grownRows short roomMade compactSpec copyOf copyDecided copyWritten copySpec liveNumber liveNumberSpec freeStartSpec pointLength waits tableFull addDecided windowAfter sequenced rowOf labelGiven labelled entriesFilled tableGrown placed joins overflows laidRows laidHow keptAfter indexGiven keeps addSpec boundsHold startAllowed rotationAllowed lentEnough formDecided live touchDecided tableLengthWell storeLengthWell freeStartWell emptyUncounted placesDistinct placesEnd sequenceWell wellFormed
+unfolding shape rubbish floats called run ran copies cases numbers same alike agree hold ofInt toBits wordsEqual everyBelow sumBelow countBelow allEqual pushed changed taken released inside holders isFree inBounds noneShared capacityAllowed stackLent managerWellFormed wrappingSub wrappingAdd alignment zerosBefore holds liveBelow moved grownBlocks blocks blockMoves copiedDown settled blockDown blocksDown writtenByBlocks compacted turn turned copied grown writtenCount laidAs laidElements laidFree placeOf overlaps rowToLay movedWindow managed freeUncounted countsFit indexTaken lowered codeDecided roomDecided decDecided openDecided openedMemory opened openSpec decTest placeAfterDec decremented decSpec compactedRows grownRows short roomMade compactSpec copyOf copyDecided copyWritten copySpec liveNumber liveNumberSpec freeStartSpec pointLength waits tableFull addDecided windowAfter sequenced rowOf labelGiven labelled entriesFilled tableGrown placed joins overflows laidRows laidHow keptAfter indexGiven keeps addSpec boundsHold startAllowed rotationAllowed lentEnough formDecided live touchDecided tableLengthWell storeLengthWell freeStartWell emptyUncounted placesDistinct placesEnd sequenceWell wellFormed
 worked-windows = refl

@@ -16,6 +16,7 @@ fn main() {
     adjust_cases::pairs();
     reading_cases::rows_read();
     reading_cases::zeros_and_nans();
+    reading_cases::joined_by_bits();
     preview_cases::previews();
     reading_cases::labels_read();
 }

@@ -21,10 +21,12 @@ use block::code_of;
 use block::equal_point;
 use store_definitions::Shape;
 
-// The words of −0.0 and of a NaN.
+// The words of −0.0 and of two NaNs.
 const MINUS_ZERO: u32 = 0x8000_0000;
 
 const NAN: u32 = 0x7fc0_0000;
+
+const OTHER_NAN: u32 = 0x7fc0_0001;
 
 fn compared(b: Block, i: usize, point: &[u32]) {
     equality(equal_point(b, i, point));
@@ -81,10 +83,12 @@ pub fn rows_read() {
     summed(b, 2, 16777217, 0, 1);
 }
 
-fn add_nan(b: Block) -> Block {
-    let point = [NAN, word(5)];
+// An add of two words, in a store of dimensions 2 a whole row.
+fn add_words(b: Block, point: [u32; 2], said: &[u8]) -> Block {
     let r = add_row(b, &point[..], 0);
-    text(b"  add NaN 5: ");
+    text(b"  add ");
+    text(said);
+    text(b": ");
     let a = r.answer;
     added(a);
     let after = r.block;
@@ -92,21 +96,42 @@ fn add_nan(b: Block) -> Block {
     after
 }
 
-// Equality is float `==`: the zeros are equal, a NaN equals nothing.
+// Equality is that of the 32 bits: −0.0 is not 0.0, and a NaN equals a NaN of the same bits.
 pub fn zeros_and_nans() {
     text(b"is_equal: zeros, NaNs and lengths\n");
     let b = add_two(add_two(opened(true, false, 10, 5), 0, 1), 2, 3);
     let zero = [MINUS_ZERO, word(1), word(2), word(3)];
     text(b"  is_equal 0, -0 1 2 3: ");
     compared(b, 0, &zero[..]);
-    let c = add_nan(b);
+    let c = add_words(b, [NAN, word(5)], b"NaN 5");
     let nan = [word(2), word(3), NAN, word(5)];
     text(b"  is_equal 1, 2 3 NaN 5: ");
     compared(c, 1, &nan[..]);
+    let other = [word(2), word(3), OTHER_NAN, word(5)];
+    text(b"  is_equal 1, 2 3 NaN of other bits 5: ");
+    compared(c, 1, &other[..]);
     text(b"  is_equal 1, three floats: ");
     compared(c, 1, &nan[..3]);
     text(b"  is_equal 2, three floats: ");
     compared(c, 2, &nan[..3]);
+}
+
+// The second row is laid whole for its zero's sign alone; the third joins over a NaN, which the fourth's is not.
+pub fn joined_by_bits() {
+    text(b"overlap: zeros and NaNs\n");
+    let b = new_store(Shape {
+        dimensions: 2,
+        shingle_size: 2,
+        capacity: 4,
+        initial_capacity: 4,
+        internal_shingling: false,
+        internal_rotation: false,
+        store_labels: false,
+    });
+    let c = add_words(b, [word(1), word(0)], b"1 0");
+    let d = add_words(c, [MINUS_ZERO, NAN], b"-0 NaN");
+    let e = add_words(d, [NAN, NAN], b"NaN NaN");
+    add_words(e, [OTHER_NAN, word(2)], b"NaN of other bits 2");
 }
 
 fn add_with_code(b: Block, code: usize) -> Block {

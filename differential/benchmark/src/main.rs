@@ -2,10 +2,12 @@
 mod c_loop;
 mod chart;
 mod measured;
+mod rows_equal;
 mod sides;
 mod timed;
 
 use measured::{Row, CHECK};
+use rows_equal::Compared;
 
 fn print(rows: &[Row]) {
     println!("| What | Capacity | Labels | Library, ns | Rust, ns | Ratio |");
@@ -24,6 +26,15 @@ fn print(rows: &[Row]) {
     }
 }
 
+fn print_compared(rows: &[Compared]) {
+    println!("\n| Rows equal, to memcmp | Library, ns | memcmp, ns | Ratio |");
+    println!("|---|---|---|---|");
+    for row in rows {
+        let ratio = row.here / row.there;
+        println!("| {} | {:.1} | {:.1} | {ratio:.2} |", row.what, row.here, row.there);
+    }
+}
+
 fn main() {
     let path = std::env::args().nth(1).expect("the picture to write");
     let mut rows = Vec::new();
@@ -35,5 +46,6 @@ fn main() {
     let order: Vec<&str> = rows.iter().take(9).map(|row| row.what).collect();
     rows.sort_by_key(|row| order.iter().position(|what| *what == row.what));
     print(&rows);
+    print_compared(&rows_equal::compared());
     std::fs::write(&path, chart::drawn(&rows)).expect(&path);
 }

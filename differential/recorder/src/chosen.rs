@@ -1,16 +1,18 @@
 //! Which calls are recorded: such as the Rust and document 01 take alike, and errors of the Rust that are refusals there.
-use crate::store::{floats, words, Opening, Recorder, NONE};
+use crate::store::{floats, is_compared_as_bits, words, Opening, Recorder, NONE};
 use random::Random;
 use reference::pointstore::PointStore;
 
+/// Zero, infinities, denormals, the largest floats and two next to each other. No NaN and no −0.0: where rows and compared points
+/// hold one the Rust is no yardstick.
 const SPECIAL: [u32; 10] = [
     0x0000_0000,
-    0x8000_0000,
+    0x8000_0001,
     0x7f80_0000,
     0xff80_0000,
-    0x7fc0_0001,
-    0xffc1_2345,
-    0x7f80_0001,
+    0x3f80_0000,
+    0x3f80_0001,
+    0xff7f_ffff,
     0x0000_0001,
     0x807f_ffff,
     0x7f7f_ffff,
@@ -171,6 +173,7 @@ impl Chooser {
                 if random.one_in(2) {
                     point[0] = f32::from_bits(self.float(random));
                 }
+                assert!(point.iter().all(is_compared_as_bits));
                 let row = words(&point);
                 r.read(
                     8,

@@ -51,6 +51,11 @@ pub fn floats(words: &[u32]) -> Vec<f32> {
     words.iter().map(|w| f32::from_bits(*w)).collect()
 }
 
+/// Whether float `==` says the same of this float as its bits: it is no NaN and not −0.0.
+pub fn is_compared_as_bits(float: &f32) -> bool {
+    !float.is_nan() && float.to_bits() != (-0.0f32).to_bits()
+}
+
 impl Recorder {
     pub fn opened(o: Opening) -> Self {
         let rust = Store::new(
@@ -108,6 +113,7 @@ impl Recorder {
     /// Whether the Rust takes it. Its errors are document 01's 8, where no label is free, and 9. They are got from a copy,
     /// because the Rust keeps partial changes.
     pub fn add(&mut self, point: &[u32], code: usize) -> bool {
+        assert!(floats(point).iter().all(is_compared_as_bits));
         let row: Vec<usize> = point.iter().map(|w| *w as usize).collect();
         let from = self.free_for_a_row();
         let mut next = self.rust.clone();

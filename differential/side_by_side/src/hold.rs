@@ -14,6 +14,7 @@ mod sides;
 mod well_formed;
 
 use crate::coverage::Coverage;
+use crate::store::kinds::OF_THE_RUST;
 use crate::store::well_formed::CLAUSES as OF_STORE;
 use crate::store::{run_parts, share, Part};
 
@@ -43,6 +44,7 @@ fn random_lists(seed: u64) -> Result<Coverage, String> {
         &lists::SHAPES[..],
         &adds,
         &on_the_way,
+        &OF_THE_RUST,
         &readings,
         &crate::store::REFUSED,
     ];

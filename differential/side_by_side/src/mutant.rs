@@ -22,7 +22,7 @@ pub const OF_THE_MANAGER: [&str; 13] = [
 ];
 
 /// Sown in the store's part.
-pub const OF_THE_STORE: [&str; 38] = [
+pub const OF_THE_STORE: [&str; 39] = [
     "compaction-leaves-old-places",
     "no-zeros-before-a-block",
     "add-never-grows-the-floats",
@@ -30,10 +30,10 @@ pub const OF_THE_STORE: [&str; 38] = [
     "growth-keeps-the-lent-floats",
     "growth-by-a-fifth-alone",
     "floats-grow-by-one-float",
-    "joined-by-equal-bits",
+    "joined-by-float-equality",
     "code-24-is-taken",
     "copy-never-turns",
-    "equality-by-bits",
+    "equality-by-float-equality",
     "turned-rows-in-a-sum",
     "look-ahead-is-dropped",
     "one-hot-at-the-class",
@@ -55,12 +55,13 @@ pub const OF_THE_STORE: [&str; 38] = [
     "harness-never-rotates",
     "harness-knows-no-special-floats",
     "harness-compares-slots-for-ever",
+    "harness-compares-nans-with-the-rust",
     "harness-leaves-the-rust-out",
     "both-give-the-wrong-place",
     "both-write-a-float-past-the-free-start",
     "both-clear-floats-after-compaction",
     "both-clear-the-code-of-a-dead-label",
-    "both-lose-the-sign-of-a-copied-zero",
+    "both-lose-a-copied-denormal",
 ];
 
 /// Sown in the hold's part.

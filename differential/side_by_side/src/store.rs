@@ -38,7 +38,8 @@ pub const REFUSED: [&str; 3] = [
 /// A part's counts: of all calls, answers and events, and of the named kinds, which have to be met.
 fn counts(title: &'static str, owed: &[&[&'static str]]) -> Coverage {
     let all = [
-        &["calls", "compared with the Rust"][..],
+        &["calls"][..],
+        &kinds::OF_THE_RUST,
         &kinds::accepted(),
         &kinds::ON_THE_WAY,
         &kinds::refusals(|_, _| false),
@@ -68,6 +69,7 @@ fn random_lists(seed: u64) -> Result<Coverage, String> {
         &lists::SHAPES[..],
         &kinds::accepted(),
         &kinds::ON_THE_WAY,
+        &kinds::OF_THE_RUST,
         &refusals,
         &REFUSED,
     ];
@@ -78,7 +80,17 @@ fn random_lists(seed: u64) -> Result<Coverage, String> {
 }
 
 fn short_lists() -> Result<Coverage, String> {
-    let owed = [&["lists", "compared with the Rust"][..], &kinds::accepted(), &REFUSED];
+    let by_the_model = [
+        kinds::WITHOUT_THE_RUST,
+        "Joined over a NaN",
+        "no join because of a zero's sign",
+    ];
+    let owed = [
+        &["lists", "compared with the Rust"][..],
+        &by_the_model,
+        &kinds::accepted(),
+        &REFUSED,
+    ];
     let mut coverage = counts("store, every short list over small shapes, beside the Rust", &owed);
     short_lists::every_short_list(if share(100) < 50 { 4 } else { 6 }, &mut coverage)?;
     Ok(coverage)

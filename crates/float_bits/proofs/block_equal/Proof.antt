@@ -3,7 +3,7 @@ use Prim.Native.Nat.{_+_, _-_, _≤_}
 use native.Mathlib.Omega.{arith}
 use mathlib.Core.Path.{_≡_, sym, ap, _∙_}
 use mathlib.Core.Bool.{Bool, _&&_, and-assoc, and-true}
-use lib.ListN.{length, drop}
+use lib.ListN.{length, drop, getD}
 use borrow.Author.Needs.{needs}
 use Rattle.float_bits.specs.Words.{wordsEqual}
 use Rattle.float_bits.specs.Rows.{rowsEqual}
@@ -20,20 +20,17 @@ abbrev μ-loop : tie.MeasureT-loop
 loop-holds : tie.Need-loop-holds Inv-loop μ-loop
 loop-holds c = search needs
 
-mul-words-equal : tie.Need-mul-words-equal Inv-loop μ-loop
-mul-words-equal c = search needs
+mul-equal : tie.Need-mul-equal Inv-loop μ-loop
+mul-equal c = search needs
 
-shared-slice-read-words-equal : tie.Need-shared-slice-read-words-equal Inv-loop μ-loop
-shared-slice-read-words-equal c = search needs
+shared-slice-read-equal : tie.Need-shared-slice-read-equal Inv-loop μ-loop
+shared-slice-read-equal c = search needs
 
-mul-words-equal-2 : tie.Need-mul-words-equal-2 Inv-loop μ-loop
-mul-words-equal-2 c = search needs
+mul-equal-2 : tie.Need-mul-equal-2 Inv-loop μ-loop
+mul-equal-2 c = search needs
 
-shared-slice-read-words-equal-2 : tie.Need-shared-slice-read-words-equal-2 Inv-loop μ-loop
-shared-slice-read-words-equal-2 c = search needs
-
-words-equal-requires : tie.Need-words-equal-requires Inv-loop μ-loop
-words-equal-requires c κs = search needs
+shared-slice-read-equal-2 : tie.Need-shared-slice-read-equal-2 Inv-loop μ-loop
+shared-slice-read-equal-2 c = search needs
 
 add-i : tie.Need-add-i Inv-loop μ-loop
 add-i c = search needs
@@ -42,23 +39,22 @@ loop-less : tie.Need-loop-less Inv-loop μ-loop
 loop-less c = search needs
 
 loop-again : tie.Need-loop-again Inv-loop μ-loop
+unfolding wordsEqual
 loop-again c =
-    let at = c .before .before .before .before in
-    let a = at .before .before .before .args .a .now in
-    let b = at .before .before .before .args .b .now in
+    let at = c .before .before .before in
+    let start = at .before in
+    let a = start .args .a .now in
+    let b = start .args .b .now in
     let i = at .loop .i in
     let equal = at .loop .equal in
-    let same = c .words-equal .result in
     let left = rowsEqual (drop (i + 1) a) (drop (i + 1) b) in
-    let turn : rowsEqual (drop i a) (drop i b) ≡ (same && left) =
-    element-turn wordsEqual 0 a b i (omega arith) (omega arith) ∙ ap (λ (t : Bool). t && left) (sym (c .words-equal .ensures)) in
-    (search needs, at .loop .inv .1 ∙ ap (λ (t : Bool). equal && t) turn ∙ sym (and-assoc equal same left))
+    (search needs, at .loop .inv .1 ∙ ap (λ (t : Bool). equal && t) (element-turn wordsEqual 0 a b i (omega arith) (omega arith)) ∙ sym (and-assoc equal (wordsEqual (getD a i 0) (getD b i 0)) left))
 
 returns : tie.Need-returns Inv-loop μ-loop
 returns c =
     let at = c .before in
-    let a = at .before .before .before .args .a .now in
-    let b = at .before .before .before .args .b .now in
+    let a = at .before .args .a .now in
+    let b = at .before .args .b .now in
     let equal = at .loop .equal in
     sym (at .loop .inv .1 ∙ ap (λ (t : Bool). equal && t) (none-left wordsEqual a b (at .loop .i) (omega arith) (omega arith)) ∙ and-true equal)
 
@@ -69,11 +65,10 @@ block-equal-spec =
     Inv-loop
     μ-loop
     loop-holds
-    mul-words-equal
-    shared-slice-read-words-equal
-    mul-words-equal-2
-    shared-slice-read-words-equal-2
-    words-equal-requires
+    mul-equal
+    shared-slice-read-equal
+    mul-equal-2
+    shared-slice-read-equal-2
     add-i
     loop-less
     loop-again

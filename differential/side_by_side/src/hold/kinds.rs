@@ -29,13 +29,12 @@ pub const OF_READINGS: [&str; 5] = [
     "refusal 1 of hold_number",
 ];
 
-pub const ON_THE_WAY: [&str; 7] = [
+pub const ON_THE_WAY: [&str; 6] = [
     "a Waiting add",
     "a Waiting add while points are held",
     "a kept add with fewer held than the width",
     GAVE_UP,
     "a refused add while the list is full",
-    "compared with the Rust",
     "copies compared with those right after their adds",
 ];
 
@@ -49,6 +48,7 @@ pub fn all() -> Vec<&'static str> {
         &OF_READINGS,
         &ON_THE_WAY,
         &of_store::ON_THE_WAY,
+        &of_store::OF_THE_RUST,
         &crate::store::REFUSED,
         &inside,
     ]

@@ -109,7 +109,7 @@ fn list_from(
         .then(|| random.within(o.shingle_size, last.max(o.shingle_size)));
     for step in 0..last {
         if random.one_in(40) {
-            taste = any_taste(random);
+            taste = taste.changed(random);
         }
         if far == Some(step) && sides.model.store.words[SEQUENCE] >= o.shingle_size as u64 {
             sides.at_sequence(LARGEST_SEQUENCE - random.below(40) as u64);

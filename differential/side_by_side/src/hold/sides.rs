@@ -11,7 +11,7 @@ use crate::store::call::Call;
 use crate::store::memory::*;
 use crate::store::model::Met;
 use crate::store::model_rows::PAST_A_FIFTH;
-use crate::store::rust_side::{self, Outcome};
+use crate::store::rust_side::{self, Ground, Outcome};
 use crate::store::sides::refused_in_rust;
 use library::hold::LentHold;
 use library::store::{Lent, Opening};
@@ -166,6 +166,14 @@ impl HoldSides {
         if self.met.contains(&PAST_A_FIFTH) {
             return Ok(());
         }
+        match rust_side::ground(of_store, got.value(), coverage) {
+            Ground::Compared => {}
+            Ground::NotAsked => {
+                self.rust = Some(rust);
+                return Ok(());
+            }
+            Ground::Left => return Ok(()),
+        }
         if self.met.contains(&"a slot's count reached 0") {
             self.slots = false;
         }
@@ -208,7 +216,7 @@ impl HoldSides {
                 self.before, self.library
             ));
         }
-        coverage.meet("compared with the Rust");
+        rust_side::meet_compared(&self.met, coverage);
         self.rust = Some(rust);
         Ok(())
     }

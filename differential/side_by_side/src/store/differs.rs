@@ -373,27 +373,101 @@ fn sequence_at_its_limit() -> Result<(), String> {
     Ok(())
 }
 
-/// The Rust keeps a class's old slot after release: both take the calls, and an attribute answers otherwise.
-fn old_slot_kept() -> Result<(), String> {
-    let (mut memory, mut rust) = opened(shape_of([1, 1, 2, 2], "l"));
-    let mut last = [0; 2];
-    for call in [
-        add(&[1], 0),
-        Call::Dec(0, 0),
-        add(&[1], 3),
-        add(&[1], 0),
-        Call::Attribute(0),
-    ] {
-        let ours = library_side::made(&call, &mut memory);
-        let Outcome::Answered(theirs) = rust_side::made(&call, shape(&memory), &mut rust) else {
-            return Err(format!("a class's old slot: the Rust refuses {call:?}"));
+/// Calls that both take, the last answered otherwise: with so many numbers here and in the Rust.
+struct Otherwise {
+    name: &'static str,
+    opening: Opening,
+    calls: Vec<Call>,
+    here: Vec<u64>,
+    rust: Vec<u64>,
+}
+
+const MINUS_ZERO: u32 = 0x8000_0000;
+const A_NAN: u32 = 0x7fc0_0000;
+const ONE: u32 = 0x3f80_0000;
+
+fn answered_otherwise() -> Vec<Otherwise> {
+    let add_words = |words: &[u32]| Call::Add {
+        point: words.to_vec(),
+        label: 0,
+    };
+    let equal_words = |word: u32| Call::IsEqual {
+        index: 0,
+        point: vec![word],
+    };
+    let no_label = NONE as u64;
+    let row = |name, shape, flags, calls, here: &[u64], rust: &[u64]| Otherwise {
+        name,
+        opening: shape_of(shape, flags),
+        calls,
+        here: here.to_vec(),
+        rust: rust.to_vec(),
+    };
+    vec![
+        // The Rust keeps a class's old slot after release.
+        row(
+            "a class's old slot",
+            [1, 1, 2, 2],
+            "l",
+            vec![
+                add(&[1], 0),
+                Call::Dec(0, 0),
+                add(&[1], 3),
+                add(&[1], 0),
+                Call::Attribute(0),
+            ],
+            &[1],
+            &[0],
+        ),
+        // The Rust compares floats, and the store their bits: kept, index, label index, joined, place.
+        row(
+            "-0.0 after 0.0",
+            [2, 2, 2, 2],
+            "",
+            vec![add_words(&[ONE, 0]), add_words(&[MINUS_ZERO, ONE])],
+            &[1, 1, no_label, 0, 2],
+            &[1, 1, no_label, 1, 1],
+        ),
+        row(
+            "a NaN after the same NaN",
+            [2, 2, 2, 2],
+            "",
+            vec![add_words(&[ONE, A_NAN]), add_words(&[A_NAN, ONE])],
+            &[1, 1, no_label, 1, 1],
+            &[1, 1, no_label, 0, 2],
+        ),
+        row(
+            "-0.0 compared with 0.0",
+            [1, 1, 1, 1],
+            "",
+            vec![add_words(&[0]), equal_words(MINUS_ZERO)],
+            &[0],
+            &[1],
+        ),
+        row(
+            "a NaN compared with the same NaN",
+            [1, 1, 1, 1],
+            "",
+            vec![add_words(&[A_NAN]), equal_words(A_NAN)],
+            &[1],
+            &[0],
+        ),
+    ]
+}
+
+fn try_answers(d: &Otherwise) -> Result<(), String> {
+    let (mut memory, mut rust) = opened(d.opening);
+    let mut last = (vec![], vec![]);
+    for call in &d.calls {
+        let ours = library_side::made(call, &mut memory);
+        let Outcome::Answered(theirs) = rust_side::made(call, shape(&memory), &mut rust) else {
+            return Err(format!("{}: the Rust refuses {call:?}", d.name));
         };
-        last = [ours.numbers[0], theirs.numbers[0]];
+        let n = d.here.len();
+        last = (ours.numbers[..n].to_vec(), theirs.numbers[..n].to_vec());
     }
-    if last != [1, 0] {
-        return Err(format!(
-            "a class's old slot: attribute 0 is {last:?} here and in the Rust"
-        ));
+    if (&last.0, &last.1) != (&d.here, &d.rust) {
+        return Err(format!("{}: {last:?} here and in the Rust", d.name));
     }
     Ok(())
 }
@@ -413,8 +487,10 @@ pub fn each(coverage: &mut Coverage) -> Result<(), String> {
     }
     sequence_at_its_limit()?;
     coverage.meet("refused here, taken by the Rust");
-    old_slot_kept()?;
-    coverage.meet("answered otherwise by the Rust");
+    for d in &answered_otherwise() {
+        try_answers(d)?;
+        coverage.meet("answered otherwise by the Rust");
+    }
     Ok(())
 }
 

@@ -1,7 +1,8 @@
 //! Calls chosen at random with a store in view: mostly such as document 01 takes, some of every kind that it refuses.
 use super::call::Call;
 use super::memory::*;
-use super::model_rows::copied;
+use super::model_rows::{copied, is_nan};
+use super::rust_side::compares_otherwise;
 use crate::mutant;
 use library::store::Lent;
 use random::Random;
@@ -43,6 +44,8 @@ pub struct Taste {
     pub mood: Mood,
     /// Which floats: 0 zeros and ones, 1 small numbers, 2 special ones, 3 any bits.
     pub floats: usize,
+    /// Whether NaNs and −0.0 are among them: where one is added the Rust is no yardstick any more.
+    pub zeros_and_nans: bool,
     /// One call in so many is made to be refused.
     pub refused_in: usize,
 }
@@ -51,7 +54,49 @@ pub fn any_taste(random: &mut Random) -> Taste {
     Taste {
         mood: [Mood::Fill, Mood::Fill, Mood::Drain, Mood::Mixed][random.below(4)],
         floats: random.below(4),
+        zeros_and_nans: random.one_in(2),
         refused_in: [6, 12, 40][random.below(3)],
+    }
+}
+
+impl Taste {
+    /// Another one, for the same list: without NaNs and −0.0 where it had none.
+    pub fn changed(self, random: &mut Random) -> Taste {
+        Taste {
+            zeros_and_nans: self.zeros_and_nans,
+            ..any_taste(random)
+        }
+    }
+
+    fn float(self, random: &mut Random) -> u32 {
+        self.allowed(any_float(self.floats, random))
+    }
+
+    fn special(self, random: &mut Random) -> u32 {
+        self.allowed(any_float(2, random))
+    }
+
+    /// In place of a NaN a large float, in place of −0.0 the denormal next to it.
+    fn allowed(self, word: u32) -> u32 {
+        match word {
+            _ if self.zeros_and_nans || !compares_otherwise(word) => word,
+            0x8000_0000 => 0x8000_0001,
+            nan => nan ^ 1 << 23,
+        }
+    }
+
+    /// One float is another one: a zero or a NaN perhaps of the other sign.
+    fn changes_one(self, point: &mut [u32], random: &mut Random) {
+        if point.is_empty() {
+            return;
+        }
+        let at = random.below(point.len());
+        let is_zero_or_nan = point[at] << 1 == 0 || is_nan(point[at]);
+        point[at] = if is_zero_or_nan && self.zeros_and_nans && random.below(4) > 0 {
+            point[at] ^ 1 << 31
+        } else {
+            self.special(random)
+        };
     }
 }
 
@@ -66,7 +111,7 @@ pub fn any_float(floats: usize, random: &mut Random) -> u32 {
 }
 
 fn floats_of(n: usize, taste: Taste, random: &mut Random) -> Vec<u32> {
-    (0..n).map(|_| any_float(taste.floats, random)).collect()
+    (0..n).map(|_| taste.float(random)).collect()
 }
 
 /// A number that a caller may pass by mistake: small, near a limit, or any.
@@ -153,17 +198,13 @@ fn wrong_length(right: usize, s: Shape, random: &mut Random) -> usize {
     }
 }
 
-/// A row whose first floats equal those before the free start, but perhaps for a zero's sign or a NaN.
+/// A row whose first floats are those before the free start, but perhaps for one.
 fn overlapping(m: &Lent, taste: Taste, random: &mut Random) -> Vec<u32> {
     let s = shape(m);
     let free_start = word(m, FREE_START);
     let mut point = m.store[free_start - s.extra..free_start].to_vec();
-    for word in &mut point {
-        if *word << 1 == 0 && random.one_in(2) {
-            *word ^= 1 << 31;
-        } else if random.one_in(60) {
-            *word = any_float(2, random);
-        }
+    if random.one_in(4) {
+        taste.changes_one(&mut point, random);
     }
     point.extend(floats_of(s.base, taste, random));
     point
@@ -251,12 +292,8 @@ fn is_equal(m: &Lent, taste: Taste, refused: bool, random: &mut Random) -> Call 
     let mut point = floats_of(s.dimensions, taste, random);
     if is_live(m, index) && random.below(4) > 0 {
         point = copied(m, index);
-        for word in &mut point {
-            if *word << 1 == 0 && random.one_in(2) {
-                *word ^= 1 << 31;
-            } else if random.one_in(4 * s.dimensions) {
-                *word = any_float(taste.floats, random);
-            }
+        if random.one_in(2) {
+            taste.changes_one(&mut point, random);
         }
     }
     if refused {

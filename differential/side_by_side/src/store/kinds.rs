@@ -26,12 +26,13 @@ const REFUSALS: [&[u64]; 18] = [
 ];
 
 /// What calls meet on their way.
-pub const ON_THE_WAY: [&str; 26] = [
+pub const ON_THE_WAY: [&str; 27] = [
     "a Waiting add",
     "Whole",
     "Joined",
-    "Joined over a zero of the other sign",
-    "no join because of a NaN",
+    "Joined over a NaN",
+    "no join because of a zero's sign",
+    "no join because of a NaN's bits",
     "the table grew",
     "the floats grew",
     "the floats grew to no multiple of base",
@@ -54,6 +55,13 @@ pub const ON_THE_WAY: [&str; 26] = [
     "a point unequal to a row",
     "a sum with a NaN",
 ];
+
+/// What the Rust, which compares floats and not their bits, is asked and what not.
+pub const OF_THE_RUST: [&str; 4] = ["compared with the Rust", ADDED_BESIDE, WITHOUT_THE_RUST, NOT_ASKED];
+
+pub const ADDED_BESIDE: &str = "an infinity or a denormal added beside the Rust";
+pub const WITHOUT_THE_RUST: &str = "went on without the Rust: a NaN or -0.0 in a row";
+pub const NOT_ASKED: &str = "is_equal of a NaN or -0.0, not asked of the Rust";
 
 /// `table[call][number]` is the kind of an answer; number 0 is an accepted call.
 fn table() -> &'static Vec<Vec<Option<&'static str>>> {

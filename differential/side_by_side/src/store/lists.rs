@@ -106,7 +106,7 @@ fn list_from(opening: Opening, last: usize, random: &mut Random, coverage: &mut 
     let far = random.one_in(10).then(|| random.within(opening.shingle_size, last));
     for step in 0..last {
         if random.one_in(40) {
-            taste = any_taste(random);
+            taste = taste.changed(random);
         }
         // The label shingle, which the Rust keeps, has to be full by then.
         if far == Some(step) && sides.model.words[SEQUENCE] >= opening.shingle_size as u64 {

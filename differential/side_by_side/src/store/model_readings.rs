@@ -1,7 +1,7 @@
 //! The calls that only read.
 use super::call::{Call, Returned};
 use super::memory::*;
-use super::model_rows::{copied, float_equal};
+use super::model_rows::{copied, rows_equal};
 use crate::mutant;
 use library::store::Lent;
 
@@ -56,12 +56,7 @@ fn is_equal(m: &Lent, index: usize, point: &[u32], r: &mut Returned) -> u64 {
     if point.len() != shape(m).dimensions {
         return 3;
     }
-    let copy = copied(m, index);
-    let by_bits = mutant::is("equality-by-bits");
-    let equal = copy
-        .iter()
-        .zip(point)
-        .all(|(a, b)| if by_bits { a == b } else { float_equal(*a, *b) });
+    let equal = rows_equal(&copied(m, index), point, "equality-by-float-equality");
     answer(r, equal as u64)
 }
 

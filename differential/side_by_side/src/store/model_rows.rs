@@ -6,8 +6,13 @@ use crate::mutant;
 use library::store::Lent;
 use reference::reasons::CLASSES;
 
-pub fn float_equal(a: u32, b: u32) -> bool {
-    f32::from_bits(a) == f32::from_bits(b)
+/// Equality of the 32 bits. The fault is the float `==` that document 02 takes away.
+pub fn rows_equal(a: &[u32], b: &[u32], fault: &'static str) -> bool {
+    let as_floats = mutant::is(fault);
+    let float_equal = |a: u32, b: u32| f32::from_bits(a) == f32::from_bits(b);
+    a.iter()
+        .zip(b)
+        .all(|(a, b)| if as_floats { float_equal(*a, *b) } else { a == b })
 }
 
 /// A fifth more and at least `least`, at most `limit`.
@@ -126,10 +131,7 @@ fn overlaps(m: &Lent, row: &[u32]) -> bool {
         return false;
     }
     let before = &m.store[free_start - s.extra..free_start];
-    if mutant::is("joined-by-equal-bits") {
-        return before.iter().zip(row).all(|(a, b)| a == b);
-    }
-    before.iter().zip(row).all(|(a, b)| float_equal(*a, *b))
+    rows_equal(before, row, "joined-by-float-equality")
 }
 
 /// An attribute slot, then a label index, each with one count more.
@@ -172,11 +174,8 @@ fn take_point(m: &mut Lent, row: &[u32], r: &mut Returned, met: &mut Met) {
     };
     let end = start + s.dimensions;
     met.push(if joined { "Joined" } else { "Whole" });
-    if joined && m.store[start..free_start] != row[..s.extra] {
-        met.push("Joined over a zero of the other sign");
-    }
-    if s.shingle_size > 1 && has_nan(&row[..s.extra]) && free_start > s.extra {
-        met.push("no join because of a NaN");
+    if s.shingle_size > 1 && free_start > s.extra {
+        meet_overlap(&m.store[free_start - s.extra..free_start], &row[..s.extra], joined, met);
     }
     m.store[free_start..end].copy_from_slice(&row[written..]);
     m.words[FREE_START] = end as u64;
@@ -185,6 +184,23 @@ fn take_point(m: &mut Lent, row: &[u32], r: &mut Returned, met: &mut Met) {
     r.numbers[1] = index as u64;
     r.numbers[3] = joined as u64;
     r.numbers[4] = (start / s.base) as u64;
+}
+
+/// Where bits and floats would join otherwise.
+fn meet_overlap(before: &[u32], first: &[u32], joined: bool, met: &mut Met) {
+    let equal_but_for = |alike: fn(u32) -> bool| {
+        let each = before.iter().zip(first);
+        !joined && each.into_iter().all(|(a, b)| a == b || alike(*a) && alike(*b))
+    };
+    if equal_but_for(|w| w << 1 == 0) {
+        met.push("no join because of a zero's sign");
+    }
+    if equal_but_for(is_nan) {
+        met.push("no join because of a NaN's bits");
+    }
+    if joined && has_nan(first) {
+        met.push("Joined over a NaN");
+    }
 }
 
 /// Which floats were kept that are easily taken for others.
@@ -216,8 +232,12 @@ fn meet_floats(point: &[u32], met: &mut Met) {
     }
 }
 
+pub fn is_nan(word: u32) -> bool {
+    f32::from_bits(word).is_nan()
+}
+
 fn has_nan(words: &[u32]) -> bool {
-    words.iter().any(|w| f32::from_bits(*w).is_nan())
+    words.iter().any(|w| is_nan(*w))
 }
 
 /// Live points by place; a block grows while the next point starts at or before its end.

@@ -1,6 +1,11 @@
 //! The unchanged Rust's side of a call.
 use super::call::{Call, Returned};
+use super::kinds;
 use super::memory::*;
+use super::model::Met;
+use super::model_rows::is_nan;
+use crate::coverage::Coverage;
+use crate::mutant;
 use library::store::{Lent, Opening};
 use reference::common::intervalstoremanager::IntervalStoreManager;
 use reference::pointstore::PointStore;
@@ -34,6 +39,46 @@ pub fn made(call: &Call, s: Shape, rust: &mut Store) -> Outcome {
         Ok(Err(_)) => Outcome::Error,
         Err(_) => Outcome::Panic,
     }
+}
+
+/// What the Rust is to a call.
+pub enum Ground {
+    /// It takes part.
+    Compared,
+    /// It is not asked: a compared point holds a NaN or −0.0.
+    NotAsked,
+    /// From here on it is another store: a row holds a NaN or −0.0.
+    Left,
+}
+
+/// 'The Rust remains the yardstick for runs whose rows and compared points hold no NaN and no −0.0.' What is refused is kept
+/// nowhere, and only 10 comes after a comparison.
+pub fn ground(call: &Call, value: u64, coverage: &mut Coverage) -> Ground {
+    let otherwise = |point: &[u32]| point.iter().any(|w| compares_otherwise(*w));
+    match (call, value) {
+        _ if mutant::is("harness-compares-nans-with-the-rust") => Ground::Compared,
+        (Call::Add { point, .. }, 0 | 10) if otherwise(point) => {
+            coverage.meet(kinds::WITHOUT_THE_RUST);
+            Ground::Left
+        }
+        (Call::IsEqual { point, .. }, 0) if otherwise(point) => {
+            coverage.meet(kinds::NOT_ASKED);
+            Ground::NotAsked
+        }
+        _ => Ground::Compared,
+    }
+}
+
+pub fn meet_compared(met: &Met, coverage: &mut Coverage) {
+    coverage.meet("compared with the Rust");
+    if met.contains(&"a point with an infinity") || met.contains(&"a point with a denormal") {
+        coverage.meet(kinds::ADDED_BESIDE);
+    }
+}
+
+/// Whether float `==` says otherwise of this word and another, or itself, than their bits do: a NaN or −0.0.
+pub fn compares_otherwise(word: u32) -> bool {
+    is_nan(word) || word == 0x8000_0000
 }
 
 fn floats(words: &[u32]) -> Vec<f32> {

@@ -4,7 +4,7 @@ use super::call::{Call, Returned, UNTOUCHED, UNTOUCHED_WORD};
 use super::memory::*;
 use super::model::Met;
 use super::model_rows::PAST_A_FIFTH;
-use super::rust_side::Outcome;
+use super::rust_side::{Ground, Outcome};
 use super::{kinds, library_side, model, rust_side};
 use crate::coverage::Coverage;
 use crate::mutant;
@@ -120,6 +120,14 @@ impl Sides {
         if self.met.contains(&PAST_A_FIFTH) {
             return Ok(());
         }
+        match rust_side::ground(call, got.value, coverage) {
+            Ground::Compared => {}
+            Ground::NotAsked => {
+                self.rust = Some(rust);
+                return Ok(());
+            }
+            Ground::Left => return Ok(()),
+        }
         if let Call::Open(_) = call {
             self.lent.clone_from(&self.before);
             self.slots = true;
@@ -160,7 +168,7 @@ impl Sides {
                 self.before, self.library
             ));
         }
-        coverage.meet("compared with the Rust");
+        rust_side::meet_compared(&self.met, coverage);
         self.rust = Some(rust);
         Ok(())
     }
@@ -271,9 +279,9 @@ fn sow_in_both(call: &Call, returned: &mut Returned, m: &mut Lent) {
                 m.labels[l] = 0;
             }
         }
-        Call::Copy { .. } if mutant::is("both-lose-the-sign-of-a-copied-zero") => {
-            for w in returned.words.iter_mut().filter(|w| **w == 1 << 31) {
-                *w = 0;
+        Call::Copy { .. } if mutant::is("both-lose-a-copied-denormal") => {
+            for w in returned.words.iter_mut().filter(|w| **w & 0x7f80_0000 == 0) {
+                *w &= 1 << 31;
             }
         }
         _ => {}
