@@ -19,7 +19,10 @@ fn first(reading: Reading, rest: f32) -> [Reading; 8] {
 fn estimates_are_tallied_and_absent_readings_repeat() {
     let mut probes = WINDOWED.open_probes().unwrap();
     assert_eq!(probes.tallies(), Ok([0; 8]));
-    assert_eq!(probes.set(first(Estimated(5.0), 1.0), 0), Ok(Added::Waiting));
+    assert_eq!(
+        probes.set(first(Estimated(5.0), 1.0), 0),
+        Ok(Added::Waiting)
+    );
     assert_eq!(probes.tallies(), Ok([1, 0, 0, 0, 0, 0, 0, 0]));
     let kept = Added::Kept {
         index: 0,

@@ -40,7 +40,10 @@ fn openings() -> Result<Coverage, String> {
 }
 
 fn broken() -> Result<Coverage, String> {
-    let owed = [&model::CLAUSES[..], &["refusal 1 of probes_set", "refusal 1 of probes_tallies"]];
+    let owed = [
+        &model::CLAUSES[..],
+        &["refusal 1 of probes_set", "refusal 1 of probes_tallies"],
+    ];
     let mut coverage = counts("probes, each clause of well-formedness broken alone", &owed);
     lists::each_clause_broken(43, share(BROKEN_EACH).max(100), &mut coverage)?;
     Ok(coverage)

@@ -17,7 +17,11 @@ use std::collections::VecDeque;
 pub fn any_product_opening(random: &mut Random) -> Opening {
     let shingle_size = [1, 1, 2, 2, 3, 4, 8][random.below(7)];
     let capacity = [1, 2, 2, 3, 4, 6, 9, 40][random.below(8)];
-    let initial_capacity = if random.one_in(2) { capacity } else { random.within(1, capacity) };
+    let initial_capacity = if random.one_in(2) {
+        capacity
+    } else {
+        random.within(1, capacity)
+    };
     let flags = 1 + 2 * random.below(4);
     Opening::with_flags([PROBES * shingle_size, shingle_size, capacity, initial_capacity], flags)
 }
@@ -95,7 +99,11 @@ fn list_from(o: Opening, last: usize, random: &mut Random, coverage: &mut Covera
 }
 
 fn dec_of(windows: &mut VecDeque<(usize, usize)>, random: &mut Random) -> ProbeCall {
-    let at = if random.one_in(3) { random.below(windows.len()) } else { 0 };
+    let at = if random.one_in(3) {
+        random.below(windows.len())
+    } else {
+        0
+    };
     let (index, label) = windows.remove(at).expect("a window");
     ProbeCall::Inside(Call::Dec(index, label))
 }

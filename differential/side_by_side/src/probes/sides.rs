@@ -259,10 +259,16 @@ impl ProbeSides {
         }
         let dimensions = word(&self.library, DIMENSIONS);
         if self.library.last_known_shingle[dimensions - PROBES..dimensions] != told.last[..] {
-            return Err(format!("the last floats are not {:?}: {call:?}\n    on {:?}", told.last, self.before));
+            return Err(format!(
+                "the last floats are not {:?}: {call:?}\n    on {:?}",
+                told.last, self.before
+            ));
         }
         if self.library.words[RECORD_WORDS..PROBES_WORDS] != told.tallies {
-            return Err(format!("the tallies are not {:?}: {call:?}\n    on {:?}", told.tallies, self.before));
+            return Err(format!(
+                "the tallies are not {:?}: {call:?}\n    on {:?}",
+                told.tallies, self.before
+            ));
         }
         self.told = Some(told);
         Ok(())

@@ -19,7 +19,8 @@ const TURNS: usize = 9;
 /// What the probes report in a turn: probe 2 is silent in turns 3 and 4, and probe 5 is reckoned from 4 and 6 in turns 4 to 6.
 fn report(turn: usize) -> [Reading; PROBES] {
     let degrees = |probe: usize| 20.0 + probe as f32 + 0.5 * turn as f32;
-    let mut readings: [Reading; PROBES] = std::array::from_fn(|probe| Reading::Measured(degrees(probe)));
+    let mut readings: [Reading; PROBES] =
+        std::array::from_fn(|probe| Reading::Measured(degrees(probe)));
     if (3..=4).contains(&turn) {
         readings[2] = Reading::Absent;
     }
@@ -30,7 +31,9 @@ fn report(turn: usize) -> [Reading; PROBES] {
 }
 
 fn main() -> Result<()> {
-    let shape = Shape::new(SETS * PROBES, WINDOWS).shingle_size(SETS).internal_shingling(true);
+    let shape = Shape::new(SETS * PROBES, WINDOWS)
+        .shingle_size(SETS)
+        .internal_shingling(true);
     let mut probes = shape.open_probes()?;
     let mut windows = VecDeque::new();
     for turn in 0..TURNS {
@@ -46,10 +49,16 @@ fn main() -> Result<()> {
                 windows.push_back(index);
                 let window = probes.store().copy(index)?;
                 let of = |probe: usize| {
-                    let floats: Vec<String> = (0..SETS).map(|k| format!("{:.1}", window[k * PROBES + probe])).collect();
+                    let floats: Vec<String> = (0..SETS)
+                        .map(|k| format!("{:.1}", window[k * PROBES + probe]))
+                        .collect();
                     floats.join(" ")
                 };
-                println!("turn {turn}: window {index}, probe 2: {}, probe 5: {}", of(2), of(5));
+                println!(
+                    "turn {turn}: window {index}, probe 2: {}, probe 5: {}",
+                    of(2),
+                    of(5)
+                );
             }
         }
     }
