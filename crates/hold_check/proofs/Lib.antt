@@ -1,1 +1,4 @@
 mod MarkLaws
+mod TestLaws
+mod RiseLaws
+mod StoreLaws

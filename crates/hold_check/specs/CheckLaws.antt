@@ -160,21 +160,22 @@ module _ {E : Type 0} (h : PointHold E) where
   unfolding holdWellFormed
   hold-ill-store e = rw e
 
-  regroup : (w a b c d e f : Bool) → w ≡ true → (a && (b && c)) ≡ false → (w && (a && (b && (c && (d && (e && f)))))) ≡ false
-  regroup w true true true d e f q z = absurd (let t : _≡_ {A = ℕ} 0 1 = let u : true ≡ false = z in cc in omega arith)
-  regroup w true true false d e f q z = rw q
-  regroup w true false c d e f q z = rw q
-  regroup w false b c d e f q z = rw q
+  regroup : (w a b c d e f : Bool) → (a && (b && c)) ≡ false → (w && (a && (b && (c && (d && (e && f)))))) ≡ false
+  regroup false a b c d e f z = refl
+  regroup true true true true d e f z = absurd (let t : _≡_ {A = ℕ} 0 1 = let u : true ≡ false = z in cc in omega arith)
+  regroup true true true false d e f z = refl
+  regroup true true false c d e f z = refl
+  regroup true false b c d e f z = refl
 
-  pub hold-ill-record : wellFormed p ≡ true → recorded ≡ false → false ≡ holdWellFormed h
+  pub hold-ill-record : recorded ≡ false → false ≡ holdWellFormed h
   unfolding holdWellFormed recordHolds tablesLent
-  hold-ill-record w e =
+  hold-ill-record e =
       sym
       (regroup (wellFormed p) (widthAllowed (h .header .width) (p .header .capacity))
       (leb (p .header .capacity) (length (h .memory .heldIndices)) && cond (p .header .«store_labels») (leb (p .header .capacity) (length (h .memory .heldLabels))) true)
       (leb (h .header .held) (h .header .width))
       (namesLivePoints p (indicesOf h)) (countedOnce p (indicesOf h))
-      (cond (p .header .«store_labels») (ownLabels p (labelsOf h)) true) w e)
+      (cond (p .header .«store_labels») (ownLabels p (labelsOf h)) true) e)
 
   -- what the list pass may rely on
   pub record Readable : Type 0 where

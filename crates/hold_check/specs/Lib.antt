@@ -1,2 +1,3 @@
 pub mod ListedOnce
 pub mod CheckLaws
+pub mod Rising

@@ -1,4 +1,4 @@
-// The check of a hold: of its store, of its record and of its list.
+// The check of a hold: of its record, of its store and of its list.
 ghost use mathlib.Core.Bool.{true, cond};
 ghost use mathlib.Core.Path.{_≡_};
 ghost use lib.Dec.{leb};
@@ -7,8 +7,8 @@ ghost use Rattle.hold_definitions.specs.Memory.{pointHold};
 ghost use Rattle.hold_definitions.specs.WellFormed.{holdWellFormed};
 ghost use Rattle.hold_check.specs.CheckLaws.{recordHolds};
 use crate::list::list_well;
+use crate::store::store_well;
 use hold_definitions::Hold;
-use store_check::check;
 use terms::FloatBits;
 
 // With labels off the table of label indices is not looked at.
@@ -59,35 +59,38 @@ pub fn check_hold(
     ensures { λ r. ⌜ r ≡ holdWellFormed (pointHold h (holdEntered store «last_known_shingle» «reference_count» location «index_starts» «index_ends» labels «label_attributes» «label_count» «label_starts» «label_ends» attributes «attribute_count» «attribute_starts» «attribute_ends» «held_indices» «held_labels»)) ⌝ }
 {
     let s = h.store;
-    let checked = check(
-        s,
-        store.len(),
-        last_known_shingle.len(),
-        reference_count,
-        location,
-        index_starts,
-        index_ends,
-        labels,
-        label_attributes,
-        label_count,
-        label_starts,
-        label_ends,
-        attributes,
-        attribute_count,
-        attribute_starts,
-        attribute_ends,
-    );
-    let well = checked.ok;
-    if well {
-        if record_holds(
-            h.width,
+    if record_holds(
+        h.width,
+        h.held,
+        s.capacity,
+        s.store_labels,
+        held_indices.len(),
+        held_labels.len(),
+    ) {
+        let checked = store_well(
+            s,
+            store.len(),
+            last_known_shingle.len(),
+            reference_count,
+            location,
+            index_starts,
+            index_ends,
+            labels,
+            label_attributes,
+            label_count,
+            label_starts,
+            label_ends,
+            attributes,
+            attribute_count,
+            attribute_starts,
+            attribute_ends,
             h.held,
-            s.capacity,
-            s.store_labels,
-            held_indices.len(),
-            held_labels.len(),
-        ) {
+            held_indices,
+        );
+        let well = checked.ok;
+        if well {
             return list_well(
+                checked.rises,
                 checked.live,
                 h.held,
                 s.index_manager.capacity,

@@ -1,8 +1,10 @@
-// The well-formedness check of a hold: its store's, and one linear pass over its list with local marks. The readings of a hold,
-// which need nothing else.
+// The well-formedness check of a hold: its store's, and one linear pass over its list, with local marks where places do not rise along it.
+// The readings of a hold, which need nothing else.
 mod check;
 mod list;
 mod read;
+mod rise;
+mod store;
 
 pub use check::check_hold;
 pub use read::held;

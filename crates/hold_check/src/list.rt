@@ -1,10 +1,12 @@
 // The pass over a hold's list.
-ghost use mathlib.Core.Bool.{true};
+ghost use mathlib.Core.Bool.{true, _&&_};
 ghost use mathlib.Core.Path.{_≡_};
 ghost use Prim.Native.Nat.{_≤_};
 ghost use lib.ListN.{length, take};
+ghost use lib.Dec.{eqb};
 ghost use Rattle.hold_check.specs.ListedOnce.{listedOnce, entryListed, entryMarked, NoMarks};
 ghost use Rattle.hold_check.specs.CheckLaws.{listHolds};
+ghost use Rattle.hold_check.specs.Rising.{singleCounts, ListRises};
 
 // Marks an entry that is below the limit, and says whether it has count 1 and was not marked yet.
 fn mark_entry(limit: usize, entry: usize, counts: &[u16], marks: &mut [bool]) -> bool
@@ -62,8 +64,44 @@ fn listed_once(limit: usize, held: usize, counts: &[u16], list: &[u16]) -> bool
     once_in_1024(limit, held, counts, list)
 }
 
-// The points' list, with how many points are live; the labels' with labels on.
+// Whether no count is above 1.
+fn counts_single(n: usize, counts: &[u16]) -> bool
+    requires { ⌜ n ≤ length (now counts) ⌝ }
+    ensures { λ r. ⌜ r ≡ singleCounts n (now (counts .entry)) ⌝ }
+{
+    let mut ok = true;
+    let mut i = 0;
+    while i < n {
+        ok = ok & (counts[i] < 2);
+        i += 1;
+    }
+    ok
+}
+
+// The points' list, with how many points are live. Where places rise along it only the counts are left to ask.
+fn points_once(
+    rises: bool,
+    live: usize,
+    held: usize,
+    n: usize,
+    counts: &[u16],
+    list: &[u16],
+) -> bool
+    requires { ⌜ ListRises n held live (now counts) (now list) rises × ((n ≤ 1024) × ((n ≤ length (now counts)) × (held ≤ length (now list)))) ⌝ }
+    ensures { λ r. ⌜ r ≡ (listedOnce n (now (counts .entry)) (take held (now (list .entry))) && eqb held live) ⌝ }
+{
+    if rises {
+        return counts_single(n, counts);
+    }
+    if held == live {
+        return listed_once(n, held, counts, list);
+    }
+    false
+}
+
+// The points' list; the labels' with labels on.
 pub fn list_well(
+    rises: bool,
     live: usize,
     held: usize,
     n: usize,
@@ -74,16 +112,14 @@ pub fn list_well(
     held_indices: &[u16],
     held_labels: &[u16],
 ) -> bool
-    requires { ⌜ ((n ≤ 1024) × ((n ≤ length (now «reference_count»)) × (held ≤ length (now «held_indices»)))) × ((«store_labels» ≡ true → (capacity ≤ 1024) × ((capacity ≤ length (now «label_count»)) × (held ≤ length (now «held_labels»))))) ⌝ }
+    requires { ⌜ ListRises n held live (now «reference_count») (now «held_indices») rises × (((n ≤ 1024) × ((n ≤ length (now «reference_count»)) × (held ≤ length (now «held_indices»)))) × ((«store_labels» ≡ true → (capacity ≤ 1024) × ((capacity ≤ length (now «label_count»)) × (held ≤ length (now «held_labels»)))))) ⌝ }
     ensures { λ r. ⌜ r ≡ listHolds live held n capacity «store_labels» (now («reference_count» .entry)) (now («label_count» .entry)) (now («held_indices» .entry)) (now («held_labels» .entry)) ⌝ }
 {
-    if listed_once(n, held, reference_count, held_indices) {
-        if held == live {
-            if store_labels {
-                return listed_once(capacity, held, label_count, held_labels);
-            }
-            return true;
+    if points_once(rises, live, held, n, reference_count, held_indices) {
+        if store_labels {
+            return listed_once(capacity, held, label_count, held_labels);
         }
+        return true;
     }
     false
 }

@@ -10,11 +10,15 @@ use lib.Dec.{leb, eqb}
 use borrow.Author.Tests.{eq-eqb, ne-eqb, leb-true}
 use Rattle.terms.specs.Below.{one-le, fails, sumBelow, every-at}
 use Rattle.interval_store_manager.specs.declared.IntervalStoreManager.{IntervalStoreManager}
-use Rattle.interval_store_manager.specs.Intervals.{inside, holders, freeNumber, inBounds, noneShared}
+use Rattle.interval_store_manager.specs.Intervals.{inside, isFree, holders, freeNumber, inBounds, noneShared}
 use Rattle.interval_store_manager.specs.WellFormed.{capacityAllowed, lentEnough, wellFormed}
 use Rattle.interval_store_manager.specs.StackLaws.{sizes, free-number, none-shared}
 use Rattle.interval_store_manager.specs.Marks.{Swept, Marked}
 use Rattle.interval_store_manager.specs.MarkLaws.{marks-count}
+
+-- a mark is 0 or 1
+pub marks-small : (c n : ℕ) (ss es marks : List ℕ) (total : ℕ) → Swept c n ss es marks true total → (k : ℕ) → getD marks k 0 ≤ 1
+marks-small c n ss es marks total s k = rw (s .marked refl k) (one-le (isFree n ss es k))
 
 -- fewer than two intervals share no index, so their sizes count the marks
 pub few-marked : (c n : ℕ) (ss es marks : List ℕ) (total : ℕ) → Swept c n ss es marks true total → n < 2 → total ≡ sumBelow c (λ k. getD marks k 0)

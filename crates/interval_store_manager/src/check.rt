@@ -56,15 +56,15 @@ fn fill_ones(marks: &mut [u8], from: usize, to: usize)
     }
 }
 
-// How many indices below the capacity are marked.
+// How many indices below the capacity are marked, each by a 1: so sixteen bits have room, and eight marks are added up at once.
 fn count_ones(marks: &[u8], capacity: usize) -> usize
-    requires { ⌜ (capacity ≤ 1024) × (capacity ≤ length (now marks)) ⌝ }
+    requires { ⌜ (capacity ≤ 1024) × ((capacity ≤ length (now marks)) × ((k : ℕ) → getD (now marks) k 0 ≤ 1)) ⌝ }
     ensures { λ r. ⌜ r ≡ sumBelow capacity (λ k. getD (now (marks .entry)) k 0) ⌝ }
 {
-    let mut total: u32 = 0;
+    let mut total: u16 = 0;
     let mut i = 0;
     while i < capacity {
-        total += marks[i] as u32;
+        total += marks[i] as u16;
         i += 1;
     }
     total as usize
@@ -72,7 +72,7 @@ fn count_ones(marks: &[u8], capacity: usize) -> usize
 
 // The same after a pass over n intervals whose sizes add up to total: fewer than two share no index, and none is counted.
 fn marked_number(marks: &[u8], capacity: usize, n: usize, total: usize) -> usize
-    requires { ⌜ (capacity ≤ 1024) × ((capacity ≤ length (now marks)) × ((n < 2 → total ≡ sumBelow capacity (λ k. getD (now marks) k 0)))) ⌝ }
+    requires { ⌜ (capacity ≤ 1024) × ((capacity ≤ length (now marks)) × ((((k : ℕ) → getD (now marks) k 0 ≤ 1)) × ((n < 2 → total ≡ sumBelow capacity (λ k. getD (now marks) k 0))))) ⌝ }
     ensures { λ r. ⌜ r ≡ sumBelow capacity (λ k. getD (now (marks .entry)) k 0) ⌝ }
 {
     if n < 2 {

@@ -18,10 +18,12 @@ pub use bounds::free_start_well;
 use label_check::labels_well_formed;
 use labels::LabelManagers;
 use labels::reason_classes;
-use record::Lengths;
-use record::record_well;
+pub use points::places_distinct;
+pub use record::Lengths;
+pub use record::record_well;
 use store_definitions::Store;
 use table::points_well;
+pub use table::table_well;
 
 // What the check finds: whether the store is well-formed, and then how many points are live.
 pub struct StoreChecked {

@@ -1,5 +1,5 @@
--- The invariant: the sum so far is that of the marks below i. A byte is below 256, so the sum fits.
-use Prim.Native.Nat.{_≤_, _-_, _*_}
+-- The invariant: the sum so far is that of the marks below i. A mark is at most 1, so the sum fits.
+use Prim.Native.Nat.{_≤_, _-_}
 use native.Mathlib.Omega.{arith}
 use native.Mathlib.Numerals.{add-one}
 use mathlib.Core.Path.{_≡_, refl}
@@ -9,7 +9,7 @@ use Rattle.interval_store_manager.proofs.check.count_ones.Statement.{st
 use Rattle.interval_store_manager.proofs.check.count_ones.Tie as tie
 
 abbrev Inv-loop : tie.InvT-loop
-Inv-loop marks capacity total₀ i₀ total i = (i ≤ capacity) × ((total ≡ sumBelow i (λ k. getD marks k 0)) × (total ≤ 255 * i))
+Inv-loop marks capacity total₀ i₀ total i = (i ≤ capacity) × ((total ≡ sumBelow i (λ k. getD marks k 0)) × (total ≤ i))
 
 abbrev μ-loop : tie.MeasureT-loop
 μ-loop marks capacity total₀ i₀ total i = capacity - i
@@ -25,7 +25,7 @@ cast-total : tie.Need-cast-total Inv-loop μ-loop
 cast-total c = omega (arith, c .shared-slice-known .given (c .before .before .loop .i))
 
 add-total : tie.Need-add-total Inv-loop μ-loop
-add-total c = omega (arith, c .shared-slice-known .given (c .before .before .loop .i))
+add-total c = omega (arith, c .before .before .before .pre .1 .1 (c .before .before .loop .i))
 
 add-i : tie.Need-add-i Inv-loop μ-loop
 add-i c = omega arith
@@ -39,7 +39,7 @@ loop-again c = (
   omega arith,
   (
     rw add-one (omega (arith, c .before .before .loop .inv .1 .0)),
-    omega (arith, c .shared-slice-known .given (c .before .before .loop .i)),
+    omega (arith, c .before .before .before .pre .1 .1 (c .before .before .loop .i)),
   ),
 )
 

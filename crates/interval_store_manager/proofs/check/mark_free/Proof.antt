@@ -3,7 +3,7 @@ use borrow.Author.Needs.{needs}
 use native.Mathlib.Omega.{arith}
 use mathlib.Core.Path.{sym, _∙_}
 use Rattle.interval_store_manager.specs.Sound.{allowed, lent}
-use Rattle.interval_store_manager.proofs.Checking.{checks, few-marked, check-fails, not-allowed, not-lent, not-lent-used, not-swept}
+use Rattle.interval_store_manager.proofs.Checking.{checks, marks-small, few-marked, check-fails, not-allowed, not-lent, not-lent-used, not-swept}
 use Rattle.interval_store_manager.proofs.check.mark_free.Statement.{statement}
 use Rattle.interval_store_manager.proofs.check.mark_free.Tie as tie
 
@@ -31,7 +31,10 @@ marked-number-requires c κs =
       most,
       (
         omega (arith, c .before .before .before .before .before .before .before .before .before .before .before .before .before .before .before .pre .0 most, c .before .before .before .before .mark-intervals .kept .1 .1 .1 .1 .0),
-        few-marked (c .before .before .before .before .before .before .before .before .before .before .before .before .before .before .before .args .m .capacity) (c .before .before .before .before .before .before .before .before .before .before .before .before .before .before .before .args .m .last_in_use) (c .before .before .before .before .before .before .before .before .before .before .before .before .before .before .before .args .starts .now) (c .before .before .before .before .before .before .before .before .before .before .before .before .before .before .before .args .ends .now) _ _ (rw (c .before .if4 .taken) at (c .before .before .before .before .mark-intervals .ensures)),
+        (
+          marks-small (c .before .before .before .before .before .before .before .before .before .before .before .before .before .before .before .args .m .capacity) (c .before .before .before .before .before .before .before .before .before .before .before .before .before .before .before .args .m .last_in_use) (c .before .before .before .before .before .before .before .before .before .before .before .before .before .before .before .args .starts .now) (c .before .before .before .before .before .before .before .before .before .before .before .before .before .before .before .args .ends .now) _ _ (rw (c .before .if4 .taken) at (c .before .before .before .before .mark-intervals .ensures)),
+          few-marked (c .before .before .before .before .before .before .before .before .before .before .before .before .before .before .before .args .m .capacity) (c .before .before .before .before .before .before .before .before .before .before .before .before .before .before .before .args .m .last_in_use) (c .before .before .before .before .before .before .before .before .before .before .before .before .before .before .before .args .starts .now) (c .before .before .before .before .before .before .before .before .before .before .before .before .before .before .before .args .ends .now) _ _ (rw (c .before .if4 .taken) at (c .before .before .before .before .mark-intervals .ensures)),
+        ),
       ),
     )
 

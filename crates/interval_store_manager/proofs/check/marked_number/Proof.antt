@@ -4,10 +4,10 @@ use Rattle.interval_store_manager.proofs.check.marked_number.Statement.
 use Rattle.interval_store_manager.proofs.check.marked_number.Tie as tie
 
 returns : tie.Need-returns
-returns c = c .before .before .pre .1 .1 (c .if1 .taken)
+returns c = c .before .before .pre .1 .1 .1 (c .if1 .taken)
 
 count-ones-requires : tie.Need-count-ones-requires
-count-ones-requires c κs = (c .before .before .pre .0, c .before .before .pre .1 .0)
+count-ones-requires c κs = (c .before .before .pre .0, (c .before .before .pre .1 .0, c .before .before .pre .1 .1 .0))
 
 returns-2 : tie.Need-returns-2
 returns-2 c = search needs

@@ -1,0 +1,39 @@
+-- What places that rise along a list say of the table that they are found in.
+use Prim.Native.Nat.{ℕ, _≤_}
+use mathlib.Core.Bool.{Bool, true}
+use mathlib.Core.List.{List}
+use mathlib.Core.Path.{_≡_, sym, _∙_}
+use lib.ListN.{length, take}
+use lib.Seq.{length-take-le}
+use Rattle.terms.specs.Below.{both}
+use Rattle.labels.specs.Counted.{counted, managed, freeUncounted}
+use Rattle.store_definitions.specs.declared.Store.{Store}
+use Rattle.store_definitions.specs.Parts.{tableLength}
+use Rattle.store_definitions.specs.WellFormed.{emptyUncounted, placesDistinct, placesEnd}
+use Rattle.store_check.specs.PointsTest.{tableTest, TableFound}
+use Rattle.hold_check.specs.Rising.{Rises, ListRises, rising-distinct, rising-listed}
+
+module _ (s : Store) (counts location starts ends : List ℕ) where
+  abbrev n : ℕ
+  n = tableLength s
+
+  table-empty : tableTest s counts location starts ends ≡ true → emptyUncounted n counts location ≡ true
+  unfolding tableTest
+  table-empty e =
+      let t = counted (s .«index_manager») counts starts ends in
+      let a = both (managed n t) _ e in
+      let b = both (freeUncounted n t) _ (a .1) in
+      both (emptyUncounted n counts location) (placesEnd n s location) (b .1) .0
+
+  module _ (ok : Bool) (live limit : ℕ) (f : TableFound s counts location starts ends ok live limit) (w : ok ≡ true) (lent : n ≤ length location) (list : List ℕ) (held : ℕ) (room : held ≤ length list) (rises : Bool) (r : rises ≡ true → (held ≡ live) × Rises n 65535 location (take held list)) where
+    pub list-distinct : rises ≡ true → placesDistinct n location ≡ true
+    list-distinct t =
+        rising-distinct n counts location (take held list) (r t .1) lent (table-empty (sym (f .is) ∙ w))
+        (length-take-le held list room ∙ r t .0 ∙ f .live-is w)
+
+    pub list-rises : ListRises n held live counts list rises
+    list-rises t = (
+      r t .0,
+      rising-listed n counts location (take held list) (r t .1) lent (table-empty (sym (f .is) ∙ w))
+          (length-take-le held list room ∙ r t .0 ∙ f .live-is w),
+    )

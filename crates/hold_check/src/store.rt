@@ -1,0 +1,149 @@
+// The check of a hold's store: as `store_check` does it, but that the hold's list may show places to be distinct.
+ghost use mathlib.Core.Bool.{true};
+ghost use mathlib.Core.Path.{_≡_};
+ghost use Prim.Native.Nat.{_≤_};
+ghost use lib.ListN.{length};
+ghost use Rattle.store_definitions.specs.Memory.{pointStore};
+ghost use Rattle.store_definitions.specs.Parts.{tableLength};
+ghost use Rattle.store_definitions.specs.WellFormed.{wellFormed, placesDistinct};
+ghost use Rattle.store_check.specs.Entries.{countsLive, PlacesBelow};
+ghost use Rattle.store_check.specs.PointsTest.{pointsTest, PointsReady};
+ghost use Rattle.store_check.specs.Tables.{tablesAtEntry};
+ghost use Rattle.hold_check.specs.Rising.{ListRises};
+use crate::rise::live_rise;
+use label_check::labels_well_formed;
+use labels::LabelManagers;
+use labels::reason_classes;
+use store_check::Lengths;
+use store_check::places_distinct;
+use store_check::record_well;
+use store_check::table_well;
+use store_definitions::Store;
+
+// What is found: whether the store is well-formed, and then how many points are live and whether places rise along the list.
+pub struct StoreListed {
+    pub ok: bool,
+    pub live: usize,
+    pub rises: bool,
+}
+
+// Places that rise are distinct; others are held against each other with marks.
+fn distinct(rises: bool, n: usize, limit: usize, location: &[u16]) -> bool
+    requires { ⌜ ((rises ≡ true → placesDistinct n (now location) ≡ true)) × ((limit ≤ 16384) × ((n ≤ length (now location)) × PlacesBelow limit n (now location))) ⌝ }
+    ensures { λ r. ⌜ r ≡ placesDistinct n (now (location .entry)) ⌝ }
+{
+    if rises {
+        return true;
+    }
+    places_distinct(n, limit, location)
+}
+
+fn points_listed(
+    s: Store,
+    reference_count: &[u16],
+    location: &[u16],
+    index_starts: &[u16],
+    index_ends: &[u16],
+    held: usize,
+    held_indices: &[u16],
+) -> StoreListed
+    requires { ⌜ PointsReady s (now «reference_count») (now location) × (held ≤ length (now «held_indices»)) ⌝ }
+    ensures { λ r. ⌜ (r .ok ≡ pointsTest s (now («reference_count» .entry)) (now (location .entry)) (now («index_starts» .entry)) (now («index_ends» .entry))) × ((r .ok ≡ true → (r .live ≡ countsLive (tableLength s) (now («reference_count» .entry))) × ListRises (tableLength s) held (r .live) (now («reference_count» .entry)) (now («held_indices» .entry)) (r .rises))) ⌝ }
+{
+    let table = table_well(s, reference_count, location, index_starts, index_ends);
+    let well = table.ok;
+    if well {
+        let n = s.index_manager.capacity;
+        let rises = live_rise(table.live, n, held, location, held_indices);
+        let ok = distinct(rises, n, table.limit, location);
+        return StoreListed {
+            ok,
+            live: table.live,
+            rises,
+        };
+    }
+    StoreListed {
+        ok: false,
+        live: 0,
+        rises: false,
+    }
+}
+
+pub fn store_well(
+    s: Store,
+    floats: usize,
+    window: usize,
+    reference_count: &[u16],
+    location: &[u16],
+    index_starts: &[u16],
+    index_ends: &[u16],
+    labels: &[u8],
+    label_attributes: &[u16],
+    label_count: &[u16],
+    label_starts: &[u16],
+    label_ends: &[u16],
+    attributes: &[u8],
+    attribute_count: &[u32],
+    attribute_starts: &[u16],
+    attribute_ends: &[u16],
+    held: usize,
+    held_indices: &[u16],
+) -> StoreListed
+    requires { ⌜ held ≤ length (now «held_indices») ⌝ }
+    ensures { λ r. ⌜ (r .ok ≡ wellFormed (pointStore s (tablesAtEntry floats window «reference_count» location «index_starts» «index_ends» labels «label_attributes» «label_count» «label_starts» «label_ends» attributes «attribute_count» «attribute_starts» «attribute_ends»))) × ((r .ok ≡ true → (r .live ≡ countsLive (tableLength s) (now («reference_count» .entry))) × ListRises (tableLength s) held (r .live) (now («reference_count» .entry)) (now («held_indices» .entry)) (r .rises))) ⌝ }
+{
+    let lent = Lengths {
+        floats,
+        window,
+        counts: reference_count.len(),
+        places: location.len(),
+        starts: index_starts.len(),
+        ends: index_ends.len(),
+    };
+    if record_well(s, lent) {
+        let points = points_listed(
+            s,
+            reference_count,
+            location,
+            index_starts,
+            index_ends,
+            held,
+            held_indices,
+        );
+        let well = points.ok;
+        if well {
+            let classes = reason_classes();
+            let label_manager = s.label_manager;
+            let attribute_manager = s.attribute_manager;
+            let managers = LabelManagers {
+                label_manager,
+                attribute_manager,
+            };
+            let ok = labels_well_formed(
+                s.store_labels,
+                &classes,
+                s.capacity,
+                managers,
+                labels,
+                label_attributes,
+                label_count,
+                label_starts,
+                label_ends,
+                attributes,
+                attribute_count,
+                attribute_starts,
+                attribute_ends,
+            );
+            return StoreListed {
+                ok,
+                live: points.live,
+                rises: points.rises,
+            };
+        }
+    }
+    StoreListed {
+        ok: false,
+        live: 0,
+        rises: false,
+    }
+}
