@@ -1,12 +1,12 @@
 -- The loops' turns, and a table written and read again.
-use Prim.Native.Nat.{ℕ, zero, suc, _+_, _≤_, _<_}
+use Prim.Native.Nat.{ℕ, suc, _+_, _≤_, _<_}
 use native.Mathlib.Numerals.{add-one}
 use native.Mathlib.Omega.{arith}
 use mathlib.Core.Bool.{Bool, true, _&&_}
-use mathlib.Core.List.{List, [], _∷_, _++_, append-nil, append-assoc}
+use mathlib.Core.List.{List, [], _∷_, _++_, append-assoc}
 use mathlib.Core.Path.{_≡_, refl, sym, ap, _∙_}
-use lib.ListN.{length, getD, take, drop, set, length-append, length-drop, take-append-drop}
-use lib.Seq.{sets, sets-eq, take-suc, take-suc-set, take-all, getD-drop, take-at, drop-drop, drop-at, length-take-le, getD-append-add}
+use lib.ListN.{length, getD, take, drop, set, length-drop, take-append-drop}
+use lib.Seq.{sets, sets-eq, take-suc, take-suc-set, take-all, getD-drop, drop-drop, length-take-le}
 use lib.Dec.{ltb}
 use borrow.Author.Tests.{ltb-true, lt-ltb}
 use Rattle.terms.specs.Below.{everyBelow, every-at, every-make}
@@ -48,12 +48,12 @@ module _ (at : ℕ) (words : List ℕ) where
       let q : n ≡ 24 = omega arith in
       sym (take-all 24 classes (omega arith)) ∙ (rw q at e)
 
--- one more store at the end of a run
-sets-more : (words : List ℕ) (at : ℕ) (vs : List ℕ) (v : ℕ) → set (sets words at vs) (at + length vs) v ≡ sets words at (vs ++ (v ∷ []))
-sets-more words at [] v = let e : at + 0 ≡ at = omega arith in rw e
-sets-more words at (x ∷ vs) v =
+-- two runs of stores, the second after the first
+pub sets-after : (words : List ℕ) (at : ℕ) (vs ws : List ℕ) → sets (sets words at vs) (at + length vs) ws ≡ sets words at (vs ++ ws)
+sets-after words at [] ws = let e : at + 0 ≡ at = omega arith in rw e
+sets-after words at (x ∷ vs) ws =
     let e : at + suc (length vs) ≡ suc at + length vs = omega arith in
-    rw e (sets-more (set words at x) (suc at) vs v)
+    rw e (sets-after (set words at x) (suc at) vs ws)
 
 -- one class written
 pub class-written : (at : ℕ) (words classes : List ℕ) (n : ℕ) → n < length classes → set (sets words at (take n classes)) (at + n) (getD classes n 0) ≡ sets words at (take (n + 1) classes)
@@ -61,7 +61,7 @@ class-written at words classes n l =
     let sized : length (take n classes) ≡ n = length-take-le n classes (omega arith) in
     let more : take (n + 1) classes ≡ take n classes ++ (getD classes n 0 ∷ []) = rw (add-one n) (take-suc classes n 0 l) in
     ap (λ (k : ℕ). set (sets words at (take n classes)) (at + k) (getD classes n 0)) (sym sized)
-    ∙ sets-more words at (take n classes) (getD classes n 0)
+    ∙ sets-after words at (take n classes) (getD classes n 0 ∷ [])
     ∙ ap (λ (vs : List ℕ). sets words at vs) (sym more)
 
 pub classes-written : (at : ℕ) (words classes : List ℕ) (n : ℕ) → n ≤ 24 → 24 ≤ n → length classes ≡ 24 → sets words at (take n classes) ≡ sets words at classes

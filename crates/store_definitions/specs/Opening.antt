@@ -20,16 +20,18 @@ shapeAllowed h =
     boundsHold (h .dimensions) (h .«shingle_size») (h .capacity) && startAllowed (h .«initial_capacity») (h .capacity)
 
 -- 'Opening checks 2, 1.' Document 02, Point 6: 'Any other text gets 17 after the lent-slice check and opens nothing.'
-unfoldable pub openDecided : {E : Type 0} → Shape → (text : List ℕ) → Memory E → Decided
-openDecided h text m =
+abbrev pub openJudged : {E : Type 0} → Shape → (table : Bool) → Memory E → Decided
+openJudged h table m =
     cond (shapeAllowed h)
-    (cond (lentEnough (h .dimensions) (h .capacity) (h .«store_labels») m) (cond (tableRead text .ok) go (refuse 17)) (refuse 1))
+    (cond (lentEnough (h .dimensions) (h .capacity) (h .«store_labels») m) (cond table go (refuse 17)) (refuse 1))
     (refuse 2)
 
--- 'Store length starts at starting capacity × dimensions ..; sequence, free start .. 0'; all indices are free; the table of classes is
--- the one that the text holds
-abbrev pub freshRecord : Shape → List ℕ → Store
-freshRecord h text =
+unfoldable pub openDecided : {E : Type 0} → Shape → (text : List ℕ) → Memory E → Decided
+openDecided h text m = openJudged h (tableRead text .ok) m
+
+-- 'Store length starts at starting capacity × dimensions ..; sequence, free start .. 0'; all indices are free
+abbrev pub freshWith : Shape → (classes : List ℕ) → Store
+freshWith h classes =
     record {
       dimensions = h .dimensions;
       «shingle_size» = h .«shingle_size»;
@@ -43,8 +45,12 @@ freshRecord h text =
       «index_manager» = manager (h .«initial_capacity») 1;
       «label_manager» = manager (h .capacity) 1;
       «attribute_manager» = manager (h .capacity) 1;
-      classes = tableRead text .classes;
+      classes = classes;
     }
+
+-- the table of classes is the one that the text holds
+abbrev pub freshRecord : Shape → List ℕ → Store
+freshRecord h text = freshWith h (tableRead text .classes)
 
 -- the record of zeros, where there is no store: it is ill-formed
 abbrev pub noRecord : Store
