@@ -65,6 +65,6 @@ pub use memory::{LentMemory, RECORD_WORDS};
 #[cfg(feature = "alloc")]
 pub use point_store::PointStore;
 pub use refusal::{AdjustRefusal, Refusal, Result};
-pub use shape::Shape;
+pub use shape::{Shape, CLASS_TEXT_BYTES, REASON_CLASSES};
 #[cfg(feature = "alloc")]
 pub use store::ProvedPointStore;

@@ -31,7 +31,7 @@ opened-hold-requires c κs = tt
 
 returns : tie.Need-returns
 returns c =
-    let a = c .before .before .before .before .before .before .before .before .before .before .before .before .before .before .before .before .before .before .before .before .before .before .args in
+    let a = c .before .before .before .before .before .before .before .before .before .before .before .before .before .before .before .before .before .before .before .before .before .before .before .args in
     let m : HoldMemory ℕ = holdHeld (a .store) (a .last-known-shingle) (a .reference-count) (a .location) (a .index-starts) (a .index-ends) (a .labels) (a .label-attributes) (a .label-count) (a .label-starts) (a .label-ends) (a .attributes) (a .attribute-count) (a .attribute-starts) (a .attribute-ends) (a .held-indices) (a .held-labels) in
     rw (c .no-hold .ensures) (open-refused (a .shape) (a .width) (a .class-text .now) m (number (c .before .before .d .given .0 .0)) (sym (c .before .before .before .before .open-decision .ensures) ∙ ap decisionMeans (c .before .before .d .given .1)))
 
@@ -82,7 +82,7 @@ same-length-15 c = c .before .before .before .before .before .before .before .be
 
 returns-2 : tie.Need-returns-2
 returns-2 c =
-    let a = c .before .before .before .before .before .before .before .before .before .before .before .before .before .before .before .before .before .before .before .before .before .before .before .before .before .before .before .before .before .before .before .before .before .before .before .before .before .before .before .before .before .before .before .before .before .before .before .before .before .before .before .before .before .before .before .before .before .before .before .before .before .before .before .before .before .before .before .args in
+    let a = c .before .before .before .before .before .before .before .before .before .before .before .before .before .before .before .before .before .before .before .before .before .before .before .before .before .before .before .before .before .before .before .before .before .before .before .before .before .before .before .before .before .before .before .before .before .before .before .before .before .before .before .before .before .before .before .before .before .before .before .before .before .before .before .before .before .before .before .before .args in
     let m : HoldMemory ℕ = holdHeld (a .store) (a .last-known-shingle) (a .reference-count) (a .location) (a .index-starts) (a .index-ends) (a .labels) (a .label-attributes) (a .label-count) (a .label-starts) (a .label-ends) (a .attributes) (a .attribute-count) (a .attribute-starts) (a .attribute-ends) (a .held-indices) (a .held-labels) in
     let o = c .before .before .before .before .before .before .before .before .before .before .before .before .before .before .before .before .before .before .before .before .before .before .before .before .before .before .before .before .before .before .before .open in
     let k : Memory ℕ = record { store = o .last .1 .0; lastKnownShingle = o .last .1 .1 .0; referenceCount = o .last .1 .1 .1 .0; location = o .last .1 .1 .1 .1 .0; indexStarts = o .last .1 .1 .1 .1 .1 .0; indexEnds = o .last .1 .1 .1 .1 .1 .1 .0; labels = o .last .1 .1 .1 .1 .1 .1 .1 .0; labelAttributes = o .last .1 .1 .1 .1 .1 .1 .1 .1 .0; labelCount = o .last .1 .1 .1 .1 .1 .1 .1 .1 .1 .0; labelStarts = o .last .1 .1 .1 .1 .1 .1 .1 .1 .1 .1 .0; labelEnds = o .last .1 .1 .1 .1 .1 .1 .1 .1 .1 .1 .1 .0; attributes = o .last .1 .1 .1 .1 .1 .1 .1 .1 .1 .1 .1 .1 .0; attributeCount = o .last .1 .1 .1 .1 .1 .1 .1 .1 .1 .1 .1 .1 .1 .0; attributeStarts = o .last .1 .1 .1 .1 .1 .1 .1 .1 .1 .1 .1 .1 .1 .1 .0; attributeEnds = o .last .1 .1 .1 .1 .1 .1 .1 .1 .1 .1 .1 .1 .1 .1 .1 .0 } in

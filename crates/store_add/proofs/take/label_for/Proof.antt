@@ -34,7 +34,7 @@ same-length-7 c = search needs
 returns : tie.Need-returns
 returns c = let a = c .before .before .before .before .before .before .before .before .before .before .before .before .before .before .before .before .before .before .before .before .before .before .before .before .before .before .before .before .before .before .before .before .before .before .before .before .args in
     let pre = c .before .before .before .before .before .before .before .before .before .before .before .before .before .before .before .before .before .before .before .before .before .before .before .before .before .before .before .before .before .before .before .before .before .before .before .before .pre in
-    label-on (a .t1) (labelHalf (managersOf (a .t1)) (a .labels .now) (a .label-attributes .now) (a .label-count .now) (a .label-starts .now) (a .label-ends .now) (a .attributes .now) (a .attribute-count .now) (a .attribute-starts .now) (a .attribute-ends .now)) (a .code) (a .t1 .classes) _ (c .before .before .before .before .before .before .before .before .before .before .before .before .before .before .before .before .before .before .before .before .before .before .before .before .if1 .taken) refl (c .before .before .before .before .before .before .before .before .before .before .before .before .before .before .take-label .ensures)
+    label-on (a .t1) (labelHalf (managersOf (a .t1)) (a .labels .now) (a .label-attributes .now) (a .label-count .now) (a .label-starts .now) (a .label-ends .now) (a .attributes .now) (a .attribute-count .now) (a .attribute-starts .now) (a .attribute-ends .now)) (a .code) _ (c .before .before .before .before .before .before .before .before .before .before .before .before .before .before .before .before .before .before .before .before .before .before .before .before .if1 .taken) (c .before .before .before .before .before .before .before .before .before .before .before .before .before .before .take-label .ensures)
 
 returns-2 : tie.Need-returns-2
 returns-2 c = let a = c .before .before .before .before .before .before .before .before .before .before .before .before .args in

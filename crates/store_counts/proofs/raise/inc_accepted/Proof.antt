@@ -39,7 +39,7 @@ inc-label-requires : tie.Need-inc-label-requires
 inc-label-requires c κs =
     let a = c .before .before .before .before .before .before .before .before .before .before .before .before .before .before .before .before .before .before .before .before .before .args in
     let p = pointStore (a .t1) (tables (a .floats) (a .window) (a .reference-count) (a .location) (a .index-starts) (a .index-ends) (a .labels) (a .label-attributes) (a .label-count) (a .label-starts) (a .label-ends) (a .attributes) (a .attribute-count) (a .attribute-starts) (a .attribute-ends)) in
-    let r = inc-label-ready p (c .before .before .before .before .before .before .before .before .before .before .before .before .before .before .before .before .before .before .before .before .before .pre .0) (a .index .0) (a .label .0) (c .before .before .before .before .before .before .before .before .before .before .before .before .before .before .before .before .before .before .before .before .before .pre .1) (c .before .before .before .before .before .before .if1 .taken) _ refl in
+    let r = inc-label-ready p (c .before .before .before .before .before .before .before .before .before .before .before .before .before .before .before .before .before .before .before .before .before .pre .0) (a .index .0) (a .label .0) (c .before .before .before .before .before .before .before .before .before .before .before .before .before .before .before .before .before .before .before .before .before .pre .1) (c .before .before .before .before .before .before .if1 .taken) in
     (r .0 .well, (r .0 .below, (r .0 .counted, r .1)))
 
 same-length : tie.Need-same-length
