@@ -244,6 +244,7 @@ assembled p r l i window elements laid free =
         «index_manager» = i .table .manager;
         «label_manager» = l .after .labelTable .manager;
         «attribute_manager» = l .after .attributeTable .manager;
+        classes = s .classes;
       };
       memory = record {
         store = elements;
