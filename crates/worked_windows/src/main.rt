@@ -18,4 +18,5 @@ fn main() {
     reading_cases::zeros_and_nans();
     preview_cases::previews();
     reading_cases::labels_read();
+    reading_cases::loaded_classes();
 }
