@@ -1,9 +1,9 @@
 -- A store comes back from its record, a record from its store, and an illegal record holds no store.
-use Prim.Native.Nat.{ℕ, zero, suc, _≤_, _<_}
+use Prim.Native.Nat.{ℕ, zero, suc, _+_, _≤_, _<_}
 use native.Mathlib.Omega.{arith}
 use mathlib.Core.Bool.{Bool, true, false, cond, _&&_}
 use mathlib.Core.List.{List, [], _∷_, _++_}
-use mathlib.Core.Path.{_≡_, refl, ap, _∙_}
+use mathlib.Core.Path.{_≡_, refl, sym, ap, _∙_}
 use lib.Dec.{leb, ltb, eqb}
 use lib.ListN.{length, getD, take, drop, length-append, List·getD-append}
 use lib.Seq.{sets, sets-eq, set-getD, take-at, getD-append-add}
@@ -67,7 +67,7 @@ written-legal : (s : Store) (rest : List ℕ) → Sized s → legalRecord (store
 unfolding legalRecord
 written-legal s rest z =
     rw (le-leb 39 (length (storeWords s ++ rest)) (omega (arith, length-append (s .classes) rest, z .codes)), flag-small (s .«internal_shingling»), flag-small (s .«internal_rotation»), flag-small (s .«store_labels»), lt-ltb (s .«next_sequence_index») 4294967296 (z .sequence))
-    (small-make 15 (storeWords s ++ rest) (λ code l. rw (getD-append-add (headWords s) (s .classes ++ rest) code 0, List·getD-append (s .classes) rest code 0 (omega (arith, z .codes))) (z .bytes code l)))
+    (small-make 15 (storeWords s ++ rest) (λ code l. rw (getD-append-add (headWords s) (s .classes ++ rest) code 0, List·getD-append (s .classes) rest 0 code (omega (arith, z .codes))) (z .bytes code l)))
 
 written-read : (s : Store) (rest : List ℕ) → length (s .classes) ≡ 24 → storeRead (storeWords s ++ rest) ≡ s
 written-read s rest k = rw (flag-back (s .«internal_shingling»), flag-back (s .«internal_rotation»), flag-back (s .«store_labels»), take-at (s .classes) rest 24 k)
@@ -137,11 +137,17 @@ flag-word (suc zero) l = refl
 flag-word (suc (suc n)) l = absurd (omega arith)
 
 -- a legal record is what its own store writes
+head-back : (words : List ℕ) → Legal words → sets words 0 (headWords (storeRead words)) ≡ words
+head-back words l =
+    rw (flag-word (getD words 3 0) (l .shingling), flag-word (getD words 4 0) (l .rotation), flag-word (getD words 5 0) (l .labels), set-getD words 0 0, set-getD words 1 0, set-getD words 2 0, set-getD words 3 0, set-getD words 4 0, set-getD words 5 0, set-getD words 6 0, set-getD words 7 0, set-getD words 8 0, set-getD words 9 0, set-getD words 10 0, set-getD words 11 0, set-getD words 12 0, set-getD words 13 0, set-getD words 14 0)
+
 pub out-in : (words : List ℕ) → legalRecord words ≡ true → storeOut words (storeIn words) ≡ words
-unfolding storeIn storeOut
 out-in words e =
     let l = legal words e in
-    rw (e, flag-word (getD words 3 0) (l .shingling), flag-word (getD words 4 0) (l .rotation), flag-word (getD words 5 0) (l .labels), set-getD words 0 0, set-getD words 1 0, set-getD words 2 0, set-getD words 3 0, set-getD words 4 0, set-getD words 5 0, set-getD words 6 0, set-getD words 7 0, set-getD words 8 0, set-getD words 9 0, set-getD words 10 0, set-getD words 11 0, set-getD words 12 0, set-getD words 13 0, set-getD words 14 0) (read-written 15 words (l .long))
+    ap (storeOut words) (sym (legal-read words (take 24 (drop 15 words)) refl e))
+    ∙ sym (classes-after words (sets words 0 (headWords (storeRead words))) (storeRead words) refl)
+    ∙ ap (λ (w : List ℕ). sets w 15 (take 24 (drop 15 words))) (head-back words l)
+    ∙ read-written 15 words (l .long)
 
 -- a call that leaves the store leaves the record
 pub record-kept : (words : List ℕ) → recorded words (storeIn words) ≡ words

@@ -5,7 +5,7 @@ use Rattle.point_store_c.proofs.record.record_legal.Statement.{statemen
 use Rattle.point_store_c.proofs.record.record_legal.Tie as tie
 
 returns : tie.Need-returns
-returns c = short-illegal (c .before .args .words .now) (c .if1 .taken)
+returns c = short-illegal (c .before .before .args .words .now) (c .if1 .taken)
 
 classes-legal-requires : tie.Need-classes-legal-requires
 classes-legal-requires c κs = c .if1 .left
@@ -24,7 +24,7 @@ shared-slice-read-result-4 c = search needs
 
 returns-2 : tie.Need-returns-2
 returns-2 c =
-    long-legal (c .before .before .before .before .before .args .words .now) (c .classes-legal .result) (c .before .before .before .before .if1 .left) (c .classes-legal .ensures)
+    long-legal (c .before .before .before .before .before .before .before .args .words .now) (c .before .before .before .before .classes-legal .result) (c .before .before .before .before .before .if1 .left) (c .before .before .before .before .classes-legal .ensures)
 
 pub record-legal-spec : {M : Type 1} → statement M
 record-legal-spec = tie.close (tie.spec returns classes-legal-requires shared-slice-read-result shared-slice-read-result-2 shared-slice-read-result-3 shared-slice-read-result-4 returns-2)

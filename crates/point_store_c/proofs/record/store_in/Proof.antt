@@ -13,11 +13,11 @@ classes-in-requires c κs =
 
 store-read-requires : tie.Need-store-read-requires
 store-read-requires c κs =
-    let l = legal (c .before .before .before .args .words .now) (sym (c .before .record-legal .ensures) ∙ c .if1 .taken) in (l .long, l .sequence)
+    let l = legal (c .before .before .before .before .args .words .now) (sym (c .before .before .record-legal .ensures) ∙ c .before .if1 .taken) in (l .long, l .sequence)
 
 returns : tie.Need-returns
 returns c =
-    c .store-read .ensures ∙ legal-read (c .before .before .before .before .args .words .now) (c .classes-in .result) (c .classes-in .ensures) (sym (c .before .before .record-legal .ensures) ∙ c .before .if1 .taken)
+    c .store-read .ensures ∙ legal-read (c .before .before .before .before .before .args .words .now) (c .before .classes-in .result) (c .before .classes-in .ensures) (sym (c .before .before .before .record-legal .ensures) ∙ c .before .before .if1 .taken)
 
 no-record-requires : tie.Need-no-record-requires
 no-record-requires c κs = tt
