@@ -66,7 +66,7 @@ fn width(memory: &ReadMemory<'_>) -> usize {
 /// use point_store::{LentHoldMemory, Shape};
 ///
 /// let shape = Shape::new(2, 4);
-/// let mut block = [0; 28];
+/// let mut block = [0; 52];
 /// assert!(shape.hold_block_words() <= block.len());
 /// let mut hold = shape.open_hold_in(LentHoldMemory::in_block(&mut block, &shape)?, 2)?;
 /// for point in [[20.0, 30.5], [21.0, 31.5], [22.0, 32.5]] {

@@ -231,7 +231,7 @@ fn points(m: &Lent, b: &mut Broken) {
         &m.words[TABLE_LENGTH..],
         &m.index_starts,
         &m.index_ends,
-        &CLAUSES[32..36],
+        &CLAUSES[35..39],
         b,
     );
     let mut places = Vec::new();
@@ -265,7 +265,7 @@ fn labels(m: &Lent, b: &mut Broken) {
         &m.words[LABEL_CAPACITY..],
         &m.label_starts,
         &m.label_ends,
-        &CLAUSES[36..40],
+        &CLAUSES[39..43],
         b,
     );
     for (is_free, count) in free.iter().zip(&m.label_count) {
@@ -273,7 +273,7 @@ fn labels(m: &Lent, b: &mut Broken) {
         b.note("a label that is not free has no count", !*is_free && *count == 0);
     }
     let words = &m.words[SLOT_CAPACITY..];
-    let free = free_indices(words, &m.attribute_starts, &m.attribute_ends, &CLAUSES[40..44], b);
+    let free = free_indices(words, &m.attribute_starts, &m.attribute_ends, &CLAUSES[43..47], b);
     for (is_free, count) in free.iter().zip(&m.attribute_count) {
         b.note("a free slot has a count", *is_free && *count > 0);
         b.note("a slot that is not free has no count", !*is_free && *count == 0);
