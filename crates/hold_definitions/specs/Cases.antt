@@ -195,6 +195,10 @@ cases =
     ∷ record { found = ran (shape 0 1 4 false false false) 0 [] 0; expected = said (refused 2 ∷ []) [] [] [] }
     ∷ record { found = started 0 [] (holdOpenSpec 0 plain 4 (tableText reasonClasses) (rubbish plain 3)); expected = said (refused 15 ∷ []) [] [] [] }
     ∷ record { found = started 0 [] (holdOpenSpec 0 plain 3 (tableText reasonClasses) (rubbish plain 3)); expected = said (refused 1 ∷ []) [] [] [] }
+    -- a text that is no table's, after the width and the memory
+    ∷ record { found = started 0 [] (holdOpenSpec 0 plain 4 [] (rubbish plain 4)); expected = said (refused 15 ∷ []) [] [] [] }
+    ∷ record { found = started 0 [] (holdOpenSpec 0 plain 3 [] (rubbish plain 3)); expected = said (refused 1 ∷ []) [] [] [] }
+    ∷ record { found = started 0 [] (holdOpenSpec 0 plain 3 [] (rubbish plain 4)); expected = said (refused 17 ∷ []) [] [] [] }
     ∷ []
 
 -- an answer as numbers: which kind it is, and what it holds

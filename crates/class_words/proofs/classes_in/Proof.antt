@@ -1,5 +1,5 @@
 -- The loop keeps that the codes passed have their classes.
-use borrow.Author.Needs.{needs, scaled-fits}
+use borrow.Author.Needs.{scaled-fits}
 use Prim.Native.Nat.{_-_, _≤_}
 use native.Mathlib.Omega.{arith}
 use mathlib.Core.Path.{_≡_, refl, _∙_}

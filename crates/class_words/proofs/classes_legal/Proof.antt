@@ -1,8 +1,8 @@
 -- The loop keeps the test of the codes passed.
-use borrow.Author.Needs.{needs, scaled-fits}
+use borrow.Author.Needs.{scaled-fits}
 use Prim.Native.Nat.{_-_, _≤_}
 use native.Mathlib.Omega.{arith}
-use mathlib.Core.Path.{_≡_, refl, _∙_}
+use mathlib.Core.Path.{_≡_}
 use Rattle.class_words.specs.WordsLaws.{smallBelow, none-small, one-small, all-small}
 use Rattle.class_words.proofs.classes_legal.Statement.{statement}
 use Rattle.class_words.proofs.classes_legal.Tie as tie

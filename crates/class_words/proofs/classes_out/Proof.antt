@@ -1,9 +1,9 @@
 -- The loop keeps what the classes passed leave.
 use borrow.Author.Needs.{needs, scaled-fits}
-use Prim.Native.Nat.{_-_, _≤_, _<_}
+use Prim.Native.Nat.{_-_, _≤_}
 use native.Mathlib.Omega.{arith}
-use mathlib.Core.Path.{_≡_, refl, sym, ap, _∙_}
-use lib.ListN.{length, take, set}
+use mathlib.Core.Path.{_≡_, refl, ap, _∙_}
+use lib.ListN.{length, take}
 use lib.Seq.{sets, length-sets}
 use Rattle.class_words.specs.WordsLaws.{class-written, classes-written}
 use Rattle.class_words.proofs.classes_out.Statement.{statement}
