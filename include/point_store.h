@@ -25,9 +25,9 @@
  *                    stay where there is nothing to gain.
  *   rotation, turned with rotation a copy is turned: stored float i comes out as entry (i + place x base) mod dimensions. Rows that
  *                    join one another then show a reading in the same entries, until a row is laid whole at another turn.
- *   label, class     with labels on, an add carries a code of 0 to 23, which says why the point is kept. Each code has a class: 0
- *                    to 23 are of class 0,0,0,1,1,2,2,2,3,3,4,4,5,5,5,6,6,6,7,7,8,8,9,9. A kept add gets a label index, counted
- *                    like the index.
+ *   label, class     with labels on, an add carries a code of 0 to 23, which says why the point is kept. Each code has a class of 0
+ *                    to 9, by the table that the store was opened with (PS_REASON_CLASSES is one). A kept add gets a label index,
+ *                    counted like the index.
  *   attribute slot   an entry that the labels of one class share while any of them is live; its number is that of the table entry
  *                    that was free when the first of them came.
  *   hold, width      a hold is a store of its own with a list of the points that it holds, the newest `width` kept ones: an add that
@@ -76,9 +76,9 @@ extern "C" {
 
 /* The version of this header. ps_version_agrees() tells whether the archive has the same. */
 #define PS_VERSION_MAJOR 0
-#define PS_VERSION_MINOR 7
+#define PS_VERSION_MINOR 8
 #define PS_VERSION_PATCH 0
-#define PS_VERSION "0.7.0"
+#define PS_VERSION "0.8.0"
 
 /* The sizes that the declarations below rely on; where one differs, the line does not compile. */
 typedef char ps_size_t_has_8_bytes[sizeof(size_t) == 8 ? 1 : -1];
@@ -102,7 +102,8 @@ enum ps_refusal {
     PS_MANAGER_CAPACITY = 13,   /* manager opened at 0, or opened at or changed to above 1,024 */
     PS_NOT_RELEASABLE = 14,     /* release of an index free or not below capacity */
     PS_HOLD_WIDTH = 15,         /* hold opened with a width of 0 or not below capacity */
-    PS_NO_EARLIER_READING = 16  /* an absent reading of a probe with no earlier one */
+    PS_NO_EARLIER_READING = 16, /* an absent reading of a probe with no earlier one */
+    PS_CLASS_TEXT = 17          /* a text that is not that of an allowed table of classes, on opening */
 };
 
 static inline const char *ps_refusal_text(uint64_t number) {
@@ -124,6 +125,7 @@ static inline const char *ps_refusal_text(uint64_t number) {
     case PS_NOT_RELEASABLE: return "index free already, or not below the capacity";
     case PS_HOLD_WIDTH: return "hold width of 0, or not below the capacity";
     case PS_NO_EARLIER_READING: return "an absent reading of a probe with no earlier one";
+    case PS_CLASS_TEXT: return "text that is not that of an allowed table of classes";
     default: return "no refusal of this library";
     }
 }
@@ -148,14 +150,46 @@ enum ps_kind {
     PS_ABSENT = 2     /* repeats the probe's last stored float */
 };
 
+/* The table of reason classes that a store is opened with is a text of PS_CLASS_TEXT_BYTES bytes: 24 lines, each a code in columns 1 to
+ * 4 and its class in columns 5 to 8, right-justified with spaces and with no leading zeros, and a line feed. The codes are 0 to 23 in
+ * order, a class is at most 9, and every class from 0 to the largest that is used occurs; they need not rise. */
+#define PS_CLASS_TEXT_BYTES 216
+
+/* The table of a caller that has none of its own. */
+#define PS_REASON_CLASSES \
+    "   0   0\n" \
+    "   1   0\n" \
+    "   2   0\n" \
+    "   3   1\n" \
+    "   4   1\n" \
+    "   5   2\n" \
+    "   6   2\n" \
+    "   7   2\n" \
+    "   8   3\n" \
+    "   9   3\n" \
+    "  10   4\n" \
+    "  11   4\n" \
+    "  12   5\n" \
+    "  13   5\n" \
+    "  14   5\n" \
+    "  15   6\n" \
+    "  16   6\n" \
+    "  17   6\n" \
+    "  18   7\n" \
+    "  19   7\n" \
+    "  20   8\n" \
+    "  21   8\n" \
+    "  22   9\n" \
+    "  23   9\n"
+
 /* Words of a store's record, of a hold's, of a product's and of a manager's. A store's are, in order: dimensions, shingle size, capacity, the
  * flags of internal shingling, rotation and labels, store length, free start, sequence; then capacity and entries in use of the
- * managers of indices, of label indices and of attribute slots. A hold's are its store's, then its width and how many points are
- * held: every call of the store takes them too, and leaves the last two. A product's are its store's, then its eight tallies, of 32
- * bits each. A manager's are its capacity and its entries in use. */
-#define PS_RECORD_WORDS 15
-#define PS_HOLD_WORDS 17
-#define PS_PROBES_WORDS 23
+ * managers of indices, of label indices and of attribute slots; then the class of each code, 0 to 23. A hold's are its store's, then
+ * its width and how many points are held: every call of the store takes them too, and leaves the last two. A product's are its store's,
+ * then its eight tallies, of 32 bits each. A manager's are its capacity and its entries in use. */
+#define PS_RECORD_WORDS 39
+#define PS_HOLD_WORDS 41
+#define PS_PROBES_WORDS 47
 #define PS_MANAGER_WORDS 2
 
 /* How much to lend for a shape. Longer slices are fine, what lies past is never touched. With labels off the nine label slices may
@@ -214,7 +248,7 @@ enum ps_kind {
     const uint16_t *attribute_starts, size_t attribute_starts_len, \
     const uint16_t *attribute_ends, size_t attribute_ends_len
 
-uint64_t ps_open(uint64_t *words, size_t words_len, PS_WRITTEN_,
+uint64_t ps_open(uint64_t *words, size_t words_len, PS_WRITTEN_, const uint8_t *class_text, size_t class_text_len,
     size_t dimensions, size_t shingle_size, size_t capacity, size_t initial_capacity, size_t internal_shingling,
     size_t internal_rotation, size_t store_labels);
 uint64_t ps_add(uint64_t *words, size_t words_len, PS_WRITTEN_,
@@ -245,6 +279,7 @@ uint64_t ps_attribute_vec(const uint64_t *words, size_t words_len, PS_READ_,
     size_t label, float *out, size_t out_len);
 uint64_t ps_hold_open(uint64_t *words, size_t words_len, PS_WRITTEN_,
     const uint16_t *held_indices, size_t held_indices_len, const uint16_t *held_labels, size_t held_labels_len,
+    const uint8_t *class_text, size_t class_text_len,
     size_t dimensions, size_t shingle_size, size_t capacity, size_t initial_capacity, size_t internal_shingling,
     size_t internal_rotation, size_t store_labels, size_t width);
 uint64_t ps_hold_add(uint64_t *words, size_t words_len, PS_WRITTEN_,
@@ -257,7 +292,7 @@ uint64_t ps_hold_held(const uint64_t *words, size_t words_len, PS_READ_,
 uint64_t ps_hold_number(const uint64_t *words, size_t words_len, PS_READ_,
     const uint16_t *held_indices, size_t held_indices_len, const uint16_t *held_labels, size_t held_labels_len,
     uint64_t *number);
-uint64_t ps_probes_open(uint64_t *words, size_t words_len, PS_WRITTEN_,
+uint64_t ps_probes_open(uint64_t *words, size_t words_len, PS_WRITTEN_, const uint8_t *class_text, size_t class_text_len,
     size_t dimensions, size_t shingle_size, size_t capacity, size_t initial_capacity, size_t internal_shingling,
     size_t internal_rotation, size_t store_labels);
 uint64_t ps_probes_set(uint64_t *words, size_t words_len, PS_WRITTEN_,
@@ -429,8 +464,9 @@ static inline uint64_t ps_shape_check(const struct ps_shape *shape) {
     if (!shape)
         return PS_ILL_FORMED;
     /* opening judges the shape first and the memory then: here it has none */
-    number = ps_open(&no_words, 0, PS_TABLES_(PS_NOTHING_, &none), shape->dimensions, shape->shingle_size, shape->capacity,
-        shape->initial_capacity, (size_t)shape->internal_shingling, (size_t)shape->internal_rotation, (size_t)shape->store_labels);
+    number = ps_open(&no_words, 0, PS_TABLES_(PS_NOTHING_, &none), PS_SLICE_(const uint8_t, (const char *)0, 0),
+        shape->dimensions, shape->shingle_size, shape->capacity, shape->initial_capacity, (size_t)shape->internal_shingling,
+        (size_t)shape->internal_rotation, (size_t)shape->store_labels);
     return number == PS_ILL_FORMED ? (uint64_t)PS_OK : number;
 }
 
@@ -487,12 +523,15 @@ static inline uint64_t ps_memory_in(void *block, size_t bytes, const struct ps_s
  * The numbers at each are its refusals in the order in which they are judged. The first 1 of each is also what NULL gets: as the
  * store, the shape, an output or an answer, and as a point or a list of nonzero length. Where NULL is taken, the call says so. */
 
-/* Opens a store in its lent memory. A second open empties it: all that was kept is gone. Refused with 1 for NULL, then 2, 1. */
-static inline uint64_t ps_store_open(struct ps_store *s, const struct ps_shape *shape) {
-    if (!s || !shape)
+/* Opens a store in its lent memory, with a table of classes: PS_REASON_CLASSES and PS_CLASS_TEXT_BYTES, or the caller's own text,
+ * without an end mark, which is read and not kept. A second open empties the store: all that was kept is gone. Refused with 1 for
+ * NULL, then 2, 1, 17. The text is judged with labels off too; NULL of length 0 is a text of no bytes, and gets 17. */
+static inline uint64_t ps_store_open(struct ps_store *s, const struct ps_shape *shape, const char *class_text, size_t class_text_len) {
+    if (!s || !shape || PS_MISSING_(class_text, class_text_len))
         return PS_ILL_FORMED;
-    return ps_open(PS_CHANGED_(s), shape->dimensions, shape->shingle_size, shape->capacity, shape->initial_capacity,
-        (size_t)shape->internal_shingling, (size_t)shape->internal_rotation, (size_t)shape->store_labels);
+    return ps_open(PS_CHANGED_(s), PS_SLICE_(const uint8_t, class_text, class_text_len), shape->dimensions,
+        shape->shingle_size, shape->capacity, shape->initial_capacity, (size_t)shape->internal_shingling,
+        (size_t)shape->internal_rotation, (size_t)shape->store_labels);
 }
 
 /* Adds a point: base floats with internal shingling, else dimensions. `label` is a code of 0 to 23, ignored with labels off.
@@ -745,16 +784,18 @@ static inline uint64_t ps_hold_memory_in(void *block, size_t bytes, const struct
     return PS_OK;
 }
 
-/* Opens a hold of the newest `width` points, empty. A second open empties it. Refused with 1 for NULL, then 2, 15, 1. */
-static inline uint64_t ps_store_hold_open(struct ps_hold *h, const struct ps_shape *shape, size_t width) {
+/* Opens a hold of the newest `width` points, empty, with a table of classes as ps_store_open() does. A second open empties it. Refused
+ * with 1 for NULL, then 2, 15, 1, 17. */
+static inline uint64_t ps_store_hold_open(
+    struct ps_hold *h, const struct ps_shape *shape, size_t width, const char *class_text, size_t class_text_len) {
     struct ps_hold_record r;
     uint64_t number;
-    if (!h || !shape)
+    if (!h || !shape || PS_MISSING_(class_text, class_text_len))
         return PS_ILL_FORMED;
     r = ps_hold_record_of(h);
-    number = ps_hold_open(PS_HELD_(PS_NOTHING_, h, r), shape->dimensions, shape->shingle_size, shape->capacity,
-        shape->initial_capacity, (size_t)shape->internal_shingling, (size_t)shape->internal_rotation,
-        (size_t)shape->store_labels, width);
+    number = ps_hold_open(PS_HELD_(PS_NOTHING_, h, r), PS_SLICE_(const uint8_t, class_text, class_text_len), shape->dimensions,
+        shape->shingle_size, shape->capacity, shape->initial_capacity, (size_t)shape->internal_shingling,
+        (size_t)shape->internal_rotation, (size_t)shape->store_labels, width);
     ps_hold_record_to(h, &r);
     return number;
 }
@@ -868,17 +909,18 @@ static inline uint64_t ps_probes_memory_in(void *block, size_t bytes, const stru
     return PS_OK;
 }
 
-/* Opens a product, with no set taken yet. Refused with 1 for NULL, then 2 for another base than 8, for no internal shingling or outside
- * the bounds, then 1. */
-static inline uint64_t ps_store_probes_open(struct ps_probes *p, const struct ps_shape *shape) {
+/* Opens a product, with no set taken yet and with a table of classes as ps_store_open() does. Refused with 1 for NULL, then 2 for another
+ * base than 8, for no internal shingling or outside the bounds, then 1, 17. */
+static inline uint64_t ps_store_probes_open(
+    struct ps_probes *p, const struct ps_shape *shape, const char *class_text, size_t class_text_len) {
     struct ps_probes_record r;
     uint64_t number;
-    if (!p || !shape)
+    if (!p || !shape || PS_MISSING_(class_text, class_text_len))
         return PS_ILL_FORMED;
     r = ps_probes_record_of(p);
-    number = ps_probes_open(PS_PRODUCT_(PS_NOTHING_, p, r), shape->dimensions, shape->shingle_size, shape->capacity,
-        shape->initial_capacity, (size_t)shape->internal_shingling, (size_t)shape->internal_rotation,
-        (size_t)shape->store_labels);
+    number = ps_probes_open(PS_PRODUCT_(PS_NOTHING_, p, r), PS_SLICE_(const uint8_t, class_text, class_text_len),
+        shape->dimensions, shape->shingle_size, shape->capacity, shape->initial_capacity,
+        (size_t)shape->internal_shingling, (size_t)shape->internal_rotation, (size_t)shape->store_labels);
     ps_probes_record_to(p, &r);
     return number;
 }

@@ -23,7 +23,7 @@ static uint64_t number, answer;
 
 static void nothing(void) {}
 static const struct ps_shape shape = {DIMENSIONS, SHINGLE_SIZE, CAPACITY, CAPACITY, 0, 1, 1};
-static void open_store(void) { number = ps_store_open(&s, &shape); }
+static void open_store(void) { number = ps_store_open(&s, &shape, PS_REASON_CLASSES, PS_CLASS_TEXT_BYTES); }
 static void add(void) { number = ps_store_add(&s, row, DIMENSIONS, 3, &added); }
 static void inc(void) { number = ps_store_inc(&s, 0, 0); }
 static void dec(void) { number = ps_store_dec(&s, 0, 0); }
@@ -42,7 +42,7 @@ static void point_sum(void) {
 static void shingled_point(void) { number = ps_store_shingled_point(&s, row, DIMENSIONS, out, DIMENSIONS); }
 static void attribute_vec(void) { number = ps_store_attribute_vec(&s, 0, out, PS_ATTRIBUTE_FLOATS); }
 
-static void hold_open(void) { number = ps_store_hold_open(&h, &shape, CAPACITY - 1); }
+static void hold_open(void) { number = ps_store_hold_open(&h, &shape, CAPACITY - 1, PS_REASON_CLASSES, PS_CLASS_TEXT_BYTES); }
 static void hold_add(void) { number = ps_store_hold_add(&h, row, DIMENSIONS, 3, &added); }
 static void hold_held(void) { number = ps_store_hold_held(&h, held, CAPACITY - 1); }
 

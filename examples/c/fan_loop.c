@@ -56,7 +56,7 @@ int main(void) {
         return 1;
     }
     accepted(ps_hold_memory_in(block, sizeof block, &shape, &h), "memory");
-    accepted(ps_store_hold_open(&h, &shape, WIDTH), "open");
+    accepted(ps_store_hold_open(&h, &shape, WIDTH, PS_REASON_CLASSES, PS_CLASS_TEXT_BYTES), "open");
 
     for (size_t i = 0; i < sizeof readings / sizeof readings[0]; i++) {
         struct ps_added added = {0, 0, 0, 0, 0};
@@ -78,7 +78,7 @@ int main(void) {
     printf("compacted: free start %" PRIu64 "\n", free_start);
     print_held(&h);
 
-    number = ps_store_hold_open(&h, &shape, CAPACITY);
+    number = ps_store_hold_open(&h, &shape, CAPACITY, PS_REASON_CLASSES, PS_CLASS_TEXT_BYTES);
     printf("a hold as wide as its capacity: refused with %" PRIu64 ", %s\n", number, ps_refusal_text(number));
     return 0;
 }

@@ -32,7 +32,7 @@ int main(void) {
     uint32_t tallies[PS_PROBES];
     int turn;
     if (number == PS_OK)
-        number = ps_store_probes_open(&probes, &shape);
+        number = ps_store_probes_open(&probes, &shape, PS_REASON_CLASSES, PS_CLASS_TEXT_BYTES);
     for (turn = 0; number == PS_OK && turn < TURNS; turn++) {
         uint8_t kinds[PS_PROBES];
         float degrees[PS_PROBES], window[SETS * PS_PROBES];

@@ -49,14 +49,25 @@ static void print_held(const char *when, const struct ps_hold *h) {
     printf("\n");
 }
 
+static uint64_t opened(struct ps_hold *h, const struct ps_shape *shape, size_t width) {
+    return ps_store_hold_open(h, shape, width, PS_REASON_CLASSES, PS_CLASS_TEXT_BYTES);
+}
+
 static void widths(struct ps_hold *h) {
     struct ps_shape shape = shape_of(1, CAPACITY, 0, 1), none = shape_of(3, CAPACITY, 0, 1), one = shape_of(1, 1, 0, 0);
-    printf("widths 0, 1, 3, 4: %" PRIu64, ps_store_hold_open(h, &shape, 0));
-    printf(" %" PRIu64, ps_store_hold_open(h, &shape, 1));
-    printf(" %" PRIu64, ps_store_hold_open(h, &shape, 3));
-    printf(" %" PRIu64 "\n", ps_store_hold_open(h, &shape, 4));
-    printf("a shape outside the bounds before the width: %" PRIu64 "\n", ps_store_hold_open(h, &none, 0));
-    printf("capacity 1 admits no width: %" PRIu64 " %" PRIu64 "\n", ps_store_hold_open(h, &one, 0), ps_store_hold_open(h, &one, 1));
+    printf("widths 0, 1, 3, 4: %" PRIu64, opened(h, &shape, 0));
+    printf(" %" PRIu64, opened(h, &shape, 1));
+    printf(" %" PRIu64, opened(h, &shape, 3));
+    printf(" %" PRIu64 "\n", opened(h, &shape, 4));
+    printf("a shape outside the bounds before the width: %" PRIu64 "\n", opened(h, &none, 0));
+    printf("capacity 1 admits no width: %" PRIu64 " %" PRIu64 "\n", opened(h, &one, 0), opened(h, &one, 1));
+    printf("one byte less of a text, after the shape, the width and the tables: %" PRIu64,
+        ps_store_hold_open(h, &none, 0, PS_REASON_CLASSES, PS_CLASS_TEXT_BYTES - 1));
+    printf(" %" PRIu64, ps_store_hold_open(h, &shape, 0, PS_REASON_CLASSES, PS_CLASS_TEXT_BYTES - 1));
+    h->held_indices_len--;
+    printf(" %" PRIu64, ps_store_hold_open(h, &shape, 1, PS_REASON_CLASSES, PS_CLASS_TEXT_BYTES - 1));
+    h->held_indices_len++;
+    printf(" %" PRIu64 "\n", ps_store_hold_open(h, &shape, 1, PS_REASON_CLASSES, PS_CLASS_TEXT_BYTES - 1));
 }
 
 static void sliding(struct ps_hold *h) {
@@ -65,7 +76,7 @@ static void sliding(struct ps_hold *h) {
     struct ps_added added = {7, 7, 7, 7, 7};
     float point[2] = {0, 0};
     uint64_t number;
-    printf("open: %" PRIu64 "\n", ps_store_hold_open(h, &shape, 2));
+    printf("open: %" PRIu64 "\n", opened(h, &shape, 2));
     print_held("fresh", h);
     printf("an empty list: %" PRIu64 "\n", ps_store_hold_held(h, NULL, 0));
     printf("adds: %" PRIu64, add(h, 1, 2));
@@ -84,7 +95,7 @@ static void sliding(struct ps_hold *h) {
 static void mixed(struct ps_hold *h) {
     struct ps_shape shape = shape_of(1, CAPACITY, 0, 1);
     uint64_t number;
-    printf("open: %" PRIu64, ps_store_hold_open(h, &shape, 2));
+    printf("open: %" PRIu64, opened(h, &shape, 2));
     printf(", adds: %" PRIu64, add(h, 1, 2));
     printf(" %" PRIu64, add(h, 3, 4));
     printf(" %" PRIu64 "\n", add(h, 5, 6));
@@ -103,7 +114,7 @@ static void mixed(struct ps_hold *h) {
 static void rotating(struct ps_hold *h) {
     struct ps_shape shape = shape_of(2, 2, 1, 0);
     int i;
-    printf("rotating, open: %" PRIu64, ps_store_hold_open(h, &shape, 1));
+    printf("rotating, open: %" PRIu64, opened(h, &shape, 1));
     printf(", adds: %" PRIu64, add(h, 1, 2));
     printf(" %" PRIu64 "\n", add(h, 2, 3));
     printf("what joins nothing:");
@@ -135,7 +146,8 @@ static void missing(struct ps_hold *h) {
     uint64_t number;
     uint16_t held[1];
     float point[2] = {1, 2};
-    printf("NULL: %" PRIu64 " %" PRIu64, ps_store_hold_open(NULL, &shape, 1), ps_store_hold_open(h, NULL, 1));
+    printf("NULL: %" PRIu64 " %" PRIu64, opened(NULL, &shape, 1), opened(h, NULL, 1));
+    printf(" %" PRIu64, ps_store_hold_open(h, &shape, 1, NULL, PS_CLASS_TEXT_BYTES));
     printf(" %" PRIu64, ps_store_hold_add(NULL, point, 2, 0, &added));
     printf(" %" PRIu64, ps_store_hold_add(h, NULL, 2, 0, &added));
     printf(" %" PRIu64, ps_store_hold_add(h, point, 2, 0, NULL));
@@ -144,9 +156,9 @@ static void missing(struct ps_hold *h) {
     printf(", state %d\n", ps_hold_state(NULL));
     printf("a table too short: ");
     h->held_labels_len--;
-    printf("%" PRIu64 ", ", ps_store_hold_open(h, &shape, 1));
+    printf("%" PRIu64 ", ", opened(h, &shape, 1));
     h->held_labels_len++;
-    printf("%" PRIu64, ps_store_hold_open(h, &shape, 1));
+    printf("%" PRIu64, opened(h, &shape, 1));
     h->held_indices_len--;
     printf(", state %d\n", ps_hold_state(h));
     h->held_indices_len++;

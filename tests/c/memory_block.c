@@ -56,7 +56,7 @@ int main(void) {
             printf("  from byte %d: one short %d", from, (int)ps_memory_in(block + from, bytes - 1, &shape, &s));
             printf(", whole %d", (int)ps_memory_in(block + from, bytes, &shape, &s));
             printf(", not opened yet %d", (int)ps_store_compact(&s));
-            printf(", opened %d", (int)ps_store_open(&s, &shape));
+            printf(", opened %d", (int)ps_store_open(&s, &shape, PS_REASON_CLASSES, PS_CLASS_TEXT_BYTES));
             fill(&s, labels);
             printf(", a sixth point %d", (int)ps_store_add(&s, row, DIMENSIONS, 0, &added));
             for (i = 0; i < sizeof block; i++)
@@ -80,7 +80,7 @@ int main(void) {
 
     /* a store that is open, copied whole to other memory, goes on there */
     ps_memory_in(block, sizeof block, &shape, &s);
-    ps_store_open(&s, &shape);
+    ps_store_open(&s, &shape, PS_REASON_CLASSES, PS_CLASS_TEXT_BYTES);
     fill(&s, 0);
     ps_memory_in(moved, sizeof moved, &shape, &other);
     memcpy(other.words, s.words, sizeof other.words);

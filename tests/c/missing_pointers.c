@@ -36,14 +36,14 @@ int main(void) {
 
     printf("set up\n");
     SAY(ps_memory_in(block, sizeof block, &shape, &s));
-    SAY(ps_store_open(&s, &shape));
+    SAY(ps_store_open(&s, &shape, PS_REASON_CLASSES, PS_CLASS_TEXT_BYTES));
     SAY(ps_store_add(&s, reading, BASE, 0, &added));
     SAY(ps_store_add(&s, reading, BASE, 0, &added));
 
     kept = s;
     memcpy(before, block, sizeof block);
     printf("no store\n");
-    SAY(ps_store_open(NULL, &shape));
+    SAY(ps_store_open(NULL, &shape, PS_REASON_CLASSES, PS_CLASS_TEXT_BYTES));
     SAY(ps_store_add(NULL, reading, BASE, 0, &added));
     SAY(ps_store_inc(NULL, 0, 0));
     SAY(ps_store_dec(NULL, 0, 0));
@@ -63,11 +63,12 @@ int main(void) {
     SAY(ps_store_attribute_vec(NULL, 0, vec, PS_ATTRIBUTE_FLOATS));
 
     printf("no shape\n");
-    SAY(ps_store_open(&s, NULL));
+    SAY(ps_store_open(&s, NULL, PS_REASON_CLASSES, PS_CLASS_TEXT_BYTES));
     SAY(ps_shape_check(NULL));
     SAY(ps_memory_in(block, sizeof block, NULL, &s));
 
     printf("no list, of nonzero length\n");
+    SAY(ps_store_open(&s, &shape, NULL, PS_CLASS_TEXT_BYTES));
     SAY(ps_store_add(&s, NULL, BASE, 0, &added));
     SAY(ps_store_adjust(&s, NULL, 1, &before_list));
     SAY(ps_store_is_equal(&s, 0, NULL, DIMENSIONS, &number));

@@ -24,7 +24,7 @@ static struct ps_shape shape_of(size_t dimensions, size_t shingle_size, int inte
 static void opened(const char *when, struct ps_probes *p, const struct ps_shape *shape) {
     uint64_t lent = ps_probes_memory_in(block, sizeof block, shape, p);
     printf("%s: %" PRIu64, when, lent);
-    printf(", open %" PRIu64 "\n", ps_store_probes_open(p, shape));
+    printf(", open %" PRIu64 "\n", ps_store_probes_open(p, shape, PS_REASON_CLASSES, PS_CLASS_TEXT_BYTES));
 }
 
 /* a set of one kind and float, but for probe 0 */
@@ -159,7 +159,7 @@ static void states(struct ps_probes *p) {
     set(p, PS_MEASURED, 1, PS_ESTIMATED, 1, 0);
     set(p, PS_MEASURED, 1, PS_ABSENT, 1, 0);
     print_tallies(p);
-    printf("  NULL: %" PRIu64, ps_store_probes_open(NULL, &shape));
+    printf("  NULL: %" PRIu64, ps_store_probes_open(NULL, &shape, PS_REASON_CLASSES, PS_CLASS_TEXT_BYTES));
     printf(" %" PRIu64, ps_store_probes_set(p, NULL, 8, NULL, 8, 0, NULL));
     printf(" %" PRIu64, ps_store_probes_tallies(p, NULL, 8));
     printf(" %" PRIu64 "\n", ps_probes_memory_in(block, sizeof block, &shape, NULL));

@@ -29,7 +29,7 @@ static uint64_t opened(size_t dimensions, size_t shingle, size_t capacity, size_
     struct ps_shape shape = {dimensions, shingle, capacity, start, internal, rotation, labels};
     memset(block, 0x5a, sizeof block);
     n = ps_memory_in(block, sizeof block, &shape, &s);
-    return n == PS_OK ? ps_store_open(&s, &shape) : n;
+    return n == PS_OK ? ps_store_open(&s, &shape, PS_REASON_CLASSES, PS_CLASS_TEXT_BYTES) : n;
 }
 
 static uint64_t add_two(float a, float b, size_t code) {
@@ -84,11 +84,11 @@ static void opening(void) {
     IS(opened(4, 3, 10, 5, 1, 0, 0), 2);
     IS(ps_memory_in(block, sizeof block, &shape, &s), 0);
     s.memory.store_len = 39;
-    IS(ps_store_open(&s, &shape), 1);
+    IS(ps_store_open(&s, &shape, PS_REASON_CLASSES, PS_CLASS_TEXT_BYTES), 1);
     s.memory.store_len = 40;
-    IS(ps_store_open(&s, &shape), 0);
+    IS(ps_store_open(&s, &shape, PS_REASON_CLASSES, PS_CLASS_TEXT_BYTES), 0);
     shape.internal_shingling = 2;
-    IS(ps_store_open(&s, &shape), 2);
+    IS(ps_store_open(&s, &shape, PS_REASON_CLASSES, PS_CLASS_TEXT_BYTES), 2);
 }
 
 static void adding_and_growth(void) {
@@ -264,13 +264,50 @@ static void labels(void) {
     }
 }
 
+/* the example of a table whose classes fall, and texts that are not those of a table */
+static void loaded_classes(void) {
+    struct ps_shape shape = {2, 1, 3, 3, 0, 0, 1};
+    char text[PS_CLASS_TEXT_BYTES + 1];
+    size_t code;
+    for (code = 0; code < 24; code++)
+        snprintf(text + 9 * code, 10, "%4d%4d\n", (int)code, code == 0 ? 2 : code == 1 ? 1 : 0);
+    IS(ps_memory_in(block, sizeof block, &shape, &s), 0);
+    IS(ps_store_open(&s, &shape, text, PS_CLASS_TEXT_BYTES), 0);
+    for (code = 0; code < 24; code++)
+        IS(s.words[15 + code], code == 0 ? 2 : code == 1 ? 1 : 0);
+    for (code = 0; code < 3; code++) {
+        IS(add_two(1, 2, code), 0);
+        IS(ps_store_attribute(&s, added.label_index, &n), 0);
+        IS(n, 2 - code);
+    }
+    s.words[16] = 2;
+    IS(ps_store_live_number(&s, &n), 1);
+    s.words[16] = 256 + 1;
+    IS(ps_store_live_number(&s, &n), 1);
+    s.words[16] = 1;
+    IS(ps_store_live_number(&s, &n), 0);
+    IS(ps_store_open(&s, &shape, text, PS_CLASS_TEXT_BYTES - 9), 17);
+    IS(ps_store_open(&s, &shape, NULL, 0), 17);
+    text[16] = '2';
+    IS(ps_store_open(&s, &shape, text, PS_CLASS_TEXT_BYTES), 17);
+    text[16] = '1';
+    text[15] = '0';
+    IS(ps_store_open(&s, &shape, text, PS_CLASS_TEXT_BYTES), 17);
+    IS(ps_store_live_number(&s, &n), 0);
+    IS(n, 3);
+    s.memory.labels_len = 2;
+    IS(ps_store_open(&s, &shape, text, PS_CLASS_TEXT_BYTES), 1);
+    shape.shingle_size = 3;
+    IS(ps_store_open(&s, &shape, text, PS_CLASS_TEXT_BYTES), 2);
+}
+
 /* the picture, from left to right */
 static uint64_t hold_opened(struct ps_hold *h, size_t width) {
     static unsigned char hold_block[PS_HOLD_MEMORY_BYTES(4, 1, 0)];
     struct ps_shape shape = {1, 1, 4, 4, 0, 0, 0};
     memset(hold_block, 0x5a, sizeof hold_block);
     IS(ps_hold_memory_in(hold_block, sizeof hold_block, &shape, h), 0);
-    return ps_store_hold_open(h, &shape, width);
+    return ps_store_hold_open(h, &shape, width, PS_REASON_CLASSES, PS_CLASS_TEXT_BYTES);
 }
 
 static uint64_t hold_add(struct ps_hold *h, float a, uint64_t index) {
@@ -357,6 +394,7 @@ int main(void) {
     readings(1);
     equality();
     labels();
+    loaded_classes();
     hold();
     manager();
     printf("docs/STORE.md: %s\n", wrong == 0 && examples > 0 ? "every example is as it says" : "wrong");

@@ -29,7 +29,7 @@ impl<'a> LentHoldMemory<'a> {
     /// The slices for a shape out of one block, which has at least [`Shape::hold_block_words`] words.
     ///
     /// Refused with [`Refusal::Shape`], and with [`Refusal::IllFormed`] where the block is too short.
-    pub fn in_block(block: &'a mut [u64], shape: &Shape) -> Result<LentHoldMemory<'a>> {
+    pub fn in_block(block: &'a mut [u64], shape: &Shape<'_>) -> Result<LentHoldMemory<'a>> {
         shape.check()?;
         if block.len() < shape.hold_block_words() {
             return Err(Refusal::IllFormed);
@@ -46,7 +46,7 @@ impl<'a> LentHoldMemory<'a> {
 }
 
 /// For a shape within the bounds: each table begins at a word.
-pub(crate) fn hold_block_words(shape: &Shape) -> usize {
+pub(crate) fn hold_block_words(shape: &Shape<'_>) -> usize {
     let table = |entries: usize| entries.div_ceil(4);
     let lengths = shape.lengths();
     block_words(shape) - RECORD_WORDS + HOLD_WORDS + table(lengths.capacity) + table(lengths.labels)
@@ -66,7 +66,7 @@ fn width(memory: &ReadMemory<'_>) -> usize {
 /// use point_store::{LentHoldMemory, Shape};
 ///
 /// let shape = Shape::new(2, 4);
-/// let mut block = [0; 28];
+/// let mut block = [0; 52];
 /// assert!(shape.hold_block_words() <= block.len());
 /// let mut hold = shape.open_hold_in(LentHoldMemory::in_block(&mut block, &shape)?, 2)?;
 /// for point in [[20.0, 30.5], [21.0, 31.5], [22.0, 32.5]] {
@@ -91,7 +91,7 @@ impl<'a> LentHold<'a> {
     /// Opens a hold of the newest `width` points in lent memory; what it held is gone.
     /// [`Refusal::Shape`], then [`Refusal::HoldWidth`], and [`Refusal::IllFormed`] where a slice is too
     /// short.
-    pub fn open(memory: LentHoldMemory<'a>, shape: &Shape, width: usize) -> Result<Self> {
+    pub fn open(memory: LentHoldMemory<'a>, shape: &Shape<'_>, width: usize) -> Result<Self> {
         let mut hold = LentHold::over(memory);
         Refusal::of_number(sys::hold_open(
             &mut hold.store.memory,
@@ -212,7 +212,7 @@ pub struct Hold {
 #[cfg(feature = "alloc")]
 impl Hold {
     /// Nothing is allocated for a shape or a width that is refused.
-    pub(crate) fn opened(shape: &Shape, width: usize) -> Result<Hold> {
+    pub(crate) fn opened(shape: &Shape<'_>, width: usize) -> Result<Hold> {
         shape.check_hold(width)?;
         let mut memory = crate::memory::Memory::new(shape);
         memory.words.resize(HOLD_WORDS, 0);

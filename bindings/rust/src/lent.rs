@@ -109,7 +109,7 @@ pub fn name_in(out: &mut [u8]) -> Result<&str> {
 
 // The calls that change, over lent memory; the two kinds of store hand theirs on.
 impl LentMemory<'_> {
-    pub(crate) fn open(&mut self, shape: &Shape) -> Result<()> {
+    pub(crate) fn open(&mut self, shape: &Shape<'_>) -> Result<()> {
         Refusal::of_number(sys::open(self, shape))
     }
 
@@ -239,7 +239,7 @@ pub struct LentPointStore<'a> {
 impl<'a> LentPointStore<'a> {
     /// Opens a store in lent memory; what it held is gone. [`Refusal::Shape`], and
     /// [`Refusal::IllFormed`] where a slice is too short.
-    pub fn open(mut memory: LentMemory<'a>, shape: &Shape) -> Result<Self> {
+    pub fn open(mut memory: LentMemory<'a>, shape: &Shape<'_>) -> Result<Self> {
         memory.open(shape)?;
         Ok(LentPointStore { memory })
     }

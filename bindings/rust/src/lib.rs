@@ -69,6 +69,6 @@ pub use point_store::PointStore;
 pub use probes::Probes;
 pub use probes::{LentProbes, Reading, PROBES, PROBES_WORDS};
 pub use refusal::{AdjustRefusal, Refusal, Result};
-pub use shape::Shape;
+pub use shape::{Shape, CLASS_TEXT_BYTES, REASON_CLASSES};
 #[cfg(feature = "alloc")]
 pub use store::ProvedPointStore;

@@ -5,7 +5,7 @@ use crate::shape::Shape;
 use crate::sys::split_off;
 
 /// How many words a store's record has.
-pub const RECORD_WORDS: usize = 15;
+pub const RECORD_WORDS: usize = 39;
 
 /// Which entries a table has for a shape: those of `lengths`, in the tables' order.
 macro_rules! tables {
@@ -32,7 +32,7 @@ macro_rules! tables {
             ///
             /// Refused with [`Refusal::Shape`], and with [`Refusal::IllFormed`] where the block is too
             /// short.
-            pub fn in_block(block: &'a mut [u64], shape: &Shape) -> Result<LentMemory<'a>> {
+            pub fn in_block(block: &'a mut [u64], shape: &Shape<'_>) -> Result<LentMemory<'a>> {
                 shape.check()?;
                 if block.len() < shape.block_words() {
                     return Err(Refusal::IllFormed);
@@ -54,7 +54,7 @@ macro_rules! tables {
             /// and the rest of it.
             pub(crate) fn front(
                 block: &'a mut [u64],
-                shape: &Shape,
+                shape: &Shape<'_>,
                 record_words: usize,
             ) -> (LentMemory<'a>, &'a mut [u64]) {
                 let (words, rest) = split_off(block, record_words);
@@ -69,7 +69,7 @@ macro_rules! tables {
         }
 
         /// How many words of 64 bits [`LentMemory::in_block`] takes: each table begins at a word.
-        pub fn block_words(shape: &Shape) -> usize {
+        pub fn block_words(shape: &Shape<'_>) -> usize {
             RECORD_WORDS $(+ (shape.lengths().$length * core::mem::size_of::<$of>()).div_ceil(8))*
         }
 
@@ -84,7 +84,7 @@ macro_rules! tables {
         #[cfg(feature = "alloc")]
         impl Memory {
             /// Tables as long as the shape, which is within the bounds, asks for.
-            pub fn new(shape: &Shape) -> Memory {
+            pub fn new(shape: &Shape<'_>) -> Memory {
                 Memory {
                     words: alloc::vec![0; RECORD_WORDS],
                     $($name: alloc::vec![<$of>::default(); shape.lengths().$length],)*

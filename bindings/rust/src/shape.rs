@@ -7,7 +7,37 @@ use crate::probes::{probes_block_words, LentProbes};
 use crate::refusal::{Refusal, Result};
 use crate::sys;
 
-/// The shape and flags of a store, from which it is opened.
+/// How many bytes the text of a table of classes has.
+pub const CLASS_TEXT_BYTES: usize = 216;
+
+/// The table of reason classes of a store whose shape names no other: see [`Shape::classes`].
+pub const REASON_CLASSES: &[u8; CLASS_TEXT_BYTES] = b"   0   0
+   1   0
+   2   0
+   3   1
+   4   1
+   5   2
+   6   2
+   7   2
+   8   3
+   9   3
+  10   4
+  11   4
+  12   5
+  13   5
+  14   5
+  15   6
+  16   6
+  17   6
+  18   7
+  19   7
+  20   8
+  21   8
+  22   9
+  23   9
+";
+
+/// The shape and flags of a store, and its table of reason classes, from which it is opened.
 ///
 /// Dimensions are 1 to 64, the shingle size divides them, the capacity is 1 to 1,024, capacity ×
 /// dimensions is at most 16,384, and the starting capacity is 1 to the capacity; else opening gives
@@ -25,7 +55,7 @@ use crate::sys;
 /// ```
 #[derive(Clone, Copy, Debug, PartialEq, Eq, Hash)]
 #[must_use]
-pub struct Shape {
+pub struct Shape<'t> {
     pub(crate) dimensions: usize,
     pub(crate) shingle_size: usize,
     pub(crate) capacity: usize,
@@ -33,12 +63,14 @@ pub struct Shape {
     pub(crate) internal_shingling: bool,
     pub(crate) internal_rotation: bool,
     pub(crate) store_labels: bool,
+    pub(crate) class_text: &'t [u8],
 }
 
-impl Shape {
+impl<'t> Shape<'t> {
     /// Points of `dimensions` floats, at most `capacity` of them at a time; the shingle size is 1, the
-    /// starting capacity is the capacity, and every flag is off.
-    pub const fn new(dimensions: usize, capacity: usize) -> Shape {
+    /// starting capacity is the capacity, every flag is off, and the reason classes are
+    /// [`REASON_CLASSES`].
+    pub const fn new(dimensions: usize, capacity: usize) -> Shape<'t> {
         Shape {
             dimensions,
             shingle_size: 1,
@@ -47,11 +79,12 @@ impl Shape {
             internal_shingling: false,
             internal_rotation: false,
             store_labels: false,
+            class_text: REASON_CLASSES,
         }
     }
 
     /// How many readings a point is made of.
-    pub const fn shingle_size(self, shingle_size: usize) -> Shape {
+    pub const fn shingle_size(self, shingle_size: usize) -> Shape<'t> {
         Shape {
             shingle_size,
             ..self
@@ -59,7 +92,7 @@ impl Shape {
     }
 
     /// For how many points indices and floats are there at first; both grow up to the capacity.
-    pub const fn initial_capacity(self, initial_capacity: usize) -> Shape {
+    pub const fn initial_capacity(self, initial_capacity: usize) -> Shape<'t> {
         Shape {
             initial_capacity,
             ..self
@@ -67,7 +100,7 @@ impl Shape {
     }
 
     /// Whether the store forms the windows: an add then takes one reading.
-    pub const fn internal_shingling(self, internal_shingling: bool) -> Shape {
+    pub const fn internal_shingling(self, internal_shingling: bool) -> Shape<'t> {
         Shape {
             internal_shingling,
             ..self
@@ -75,7 +108,7 @@ impl Shape {
     }
 
     /// Whether a copy is turned by its place.
-    pub const fn internal_rotation(self, internal_rotation: bool) -> Shape {
+    pub const fn internal_rotation(self, internal_rotation: bool) -> Shape<'t> {
         Shape {
             internal_rotation,
             ..self
@@ -83,9 +116,32 @@ impl Shape {
     }
 
     /// Whether points have labels and attributes.
-    pub const fn labels(self, labels: bool) -> Shape {
+    pub const fn labels(self, labels: bool) -> Shape<'t> {
         Shape {
             store_labels: labels,
+            ..self
+        }
+    }
+
+    /// The reason classes, as a text of [`CLASS_TEXT_BYTES`] bytes: 24 lines, each a code in columns 1
+    /// to 4 and its class in columns 5 to 8, right-justified with spaces and with no leading zeros, and a
+    /// line feed. The codes are 0 to 23 in order, a class is at most 9, and every class from 0 to the
+    /// largest that is used occurs; they need not rise. Opening gives [`Refusal::ClassText`] for any
+    /// other text, with labels off too. The text is read on opening and not kept.
+    ///
+    /// ```
+    /// use point_store::{Refusal, Shape};
+    ///
+    /// let two_classes: String = (0..24).map(|code| format!("{code:4}{:4}\n", code % 2)).collect();
+    /// let shape = Shape::new(4, 10).labels(true).classes(two_classes.as_bytes());
+    /// # #[cfg(feature = "alloc")]
+    /// assert!(shape.open().is_ok());
+    /// # #[cfg(feature = "alloc")]
+    /// assert_eq!(shape.classes(b"").open().unwrap_err(), Refusal::ClassText);
+    /// ```
+    pub const fn classes(self, text: &'t [u8]) -> Shape<'t> {
+        Shape {
+            class_text: text,
             ..self
         }
     }

@@ -61,12 +61,12 @@ impl ProvedPointStore {
     /// assert_eq!(store.live_number()?, 0);
     /// # Ok::<(), point_store::Refusal>(())
     /// ```
-    pub const fn builder(dimensions: usize, capacity: usize) -> Shape {
+    pub const fn builder(dimensions: usize, capacity: usize) -> Shape<'static> {
         Shape::new(dimensions, capacity)
     }
 
     /// Nothing is allocated for a shape outside the bounds.
-    pub(crate) fn opened(shape: &Shape) -> Result<ProvedPointStore> {
+    pub(crate) fn opened(shape: &Shape<'_>) -> Result<ProvedPointStore> {
         shape.check()?;
         let mut memory = Memory::new(shape);
         memory.lent().open(shape)?;

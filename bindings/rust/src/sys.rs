@@ -71,6 +71,8 @@ macro_rules! declare {
 
 declare! { mut
     ps_open(
+        class_text: *const u8,
+        class_text_length: usize,
         dimensions: usize,
         shingle_size: usize,
         capacity: usize,
@@ -98,6 +100,8 @@ declare! { mut
         held_indices_length: usize,
         held_labels: *const u16,
         held_labels_length: usize,
+        class_text: *const u8,
+        class_text_length: usize,
         dimensions: usize,
         shingle_size: usize,
         capacity: usize,
@@ -122,6 +126,8 @@ declare! { mut
         place: &mut u64,
     );
     ps_probes_open(
+        class_text: *const u8,
+        class_text_length: usize,
         dimensions: usize,
         shingle_size: usize,
         capacity: usize,
@@ -331,12 +337,14 @@ macro_rules! read {
     };
 }
 
-pub fn open(memory: &mut LentMemory<'_>, shape: &Shape) -> u64 {
-    // SAFETY: the memory is borrowed for this call alone; a table of any length is fine.
+pub fn open(memory: &mut LentMemory<'_>, shape: &Shape<'_>) -> u64 {
+    // SAFETY: memory and text are borrowed for this call alone; a table or text of any length is fine.
     unsafe {
         change!(
             ps_open,
             memory,
+            shape.class_text.as_ptr(),
+            shape.class_text.len(),
             shape.dimensions,
             shape.shingle_size,
             shape.capacity,
@@ -550,12 +558,12 @@ fn no_memory() -> LentMemory<'static> {
 }
 
 /// An opening without memory.
-pub fn open_nothing(shape: &Shape) -> u64 {
+pub fn open_nothing(shape: &Shape<'_>) -> u64 {
     open(&mut no_memory(), shape)
 }
 
 /// An opening of a hold without memory.
-pub fn hold_open_nothing(shape: &Shape, width: usize) -> u64 {
+pub fn hold_open_nothing(shape: &Shape<'_>, width: usize) -> u64 {
     hold_open(&mut no_memory(), &[], &[], shape, width)
 }
 
@@ -566,7 +574,7 @@ pub fn hold_open(
     memory: &mut LentMemory<'_>,
     held_indices: &[u16],
     held_labels: &[u16],
-    shape: &Shape,
+    shape: &Shape<'_>,
     width: usize,
 ) -> u64 {
     unsafe {
@@ -577,6 +585,8 @@ pub fn hold_open(
             held_indices.len(),
             held_labels.as_ptr(),
             held_labels.len(),
+            shape.class_text.as_ptr(),
+            shape.class_text.len(),
             shape.dimensions,
             shape.shingle_size,
             shape.capacity,
@@ -669,6 +679,8 @@ pub fn probes_open(memory: &mut LentMemory<'_>, shape: &Shape) -> u64 {
         change!(
             ps_probes_open,
             memory,
+            shape.class_text.as_ptr(),
+            shape.class_text.len(),
             shape.dimensions,
             shape.shingle_size,
             shape.capacity,

@@ -8,7 +8,7 @@ use point_store::{
 
 const UNTOUCHED: u64 = 0xa5a5_a5a5_a5a5_a5a5;
 
-fn shape(rotating: bool, labels: bool) -> Shape {
+fn shape(rotating: bool, labels: bool) -> Shape<'static> {
     Shape::new(4, 7)
         .shingle_size(2)
         .initial_capacity(5)

@@ -1,6 +1,6 @@
 //! Each refusal that a store's caller can meet, and that a refused call changes nothing.
 
-use point_store::{PointStore, ProvedPointStore, Refusal, Result, NONE};
+use point_store::{PointStore, ProvedPointStore, Refusal, Result, Shape, NONE};
 
 /// Two floats to a point, no shingling, labels on, capacity 2.
 fn labelled() -> ProvedPointStore {
@@ -218,4 +218,59 @@ fn point_and_label_keep_their_positions() {
     assert_eq!(store.label(1), Ok(9));
     store.inc(0, 1).unwrap();
     assert_eq!(store.count(0), Ok(2));
+}
+
+// The text of a table, code by code.
+fn text_of(classes: impl Fn(usize) -> usize) -> Vec<u8> {
+    let lines = (0..24).map(|code| format!("{code:4}{:4}\n", classes(code)));
+    lines.collect::<String>().into_bytes()
+}
+
+#[test]
+fn the_class_is_that_of_the_loaded_table() {
+    // the classes fall
+    let text = text_of(|code| 2_usize.saturating_sub(code));
+    let shape = Shape::new(1, 4).labels(true).classes(&text);
+    let mut store = shape.open().unwrap();
+    for code in 0..4 {
+        let (_, label, _) = store.add(&[1.0], code).unwrap();
+        assert_eq!(
+            store.attribute(label).unwrap(),
+            2_usize.saturating_sub(code)
+        );
+    }
+    let built_in = Shape::new(1, 4).labels(true);
+    let mut store = built_in.open().unwrap();
+    let (_, label, _) = store.add(&[1.0], 23).unwrap();
+    assert_eq!(store.attribute(label).unwrap(), 9);
+}
+
+#[test]
+fn any_other_text_is_refused_after_shape_width_and_memory() {
+    let good = text_of(|code| code % 3);
+    let refused = |shape: Shape<'_>| shape.open().unwrap_err();
+    let shape = Shape::new(1, 2);
+    assert!(shape.classes(&good).open().is_ok());
+    for text in [
+        text_of(|code| if code == 23 { 2 } else { 0 }),
+        text_of(|_| 1),
+        text_of(|code| code % 11),
+        good[9..].to_vec(),
+        [&good[..], b"\n"].concat(),
+        good.iter()
+            .map(|b| if *b == b' ' { b'0' } else { *b })
+            .collect(),
+        Vec::new(),
+    ] {
+        assert_eq!(refused(shape.classes(&text)), Refusal::ClassText);
+        assert_eq!(
+            shape.classes(&text).open_hold(1).unwrap_err(),
+            Refusal::ClassText
+        );
+        assert_eq!(
+            shape.classes(&text).open_hold(2).unwrap_err(),
+            Refusal::HoldWidth
+        );
+        assert_eq!(refused(Shape::new(65, 1).classes(&text)), Refusal::Shape);
+    }
 }

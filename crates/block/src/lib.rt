@@ -16,6 +16,7 @@ pub use change::compact_block;
 pub use change::dec_point;
 pub use change::inc_point;
 pub use opening::open_block;
+pub use opening::open_with_classes;
 pub use others::attributes_of;
 pub use others::class_of;
 pub use others::code_of;

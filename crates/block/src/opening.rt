@@ -1,10 +1,16 @@
-// Opening.
+// Opening, with document 01's table of classes or another.
 use crate::Block;
 use crate::Ended;
+use class_table::reason_classes_text;
 use store_definitions::Shape;
 use store_rows::open;
 
 pub fn open_block(shape: Shape) -> Ended {
+    let text = reason_classes_text();
+    open_with_classes(shape, &text[..])
+}
+
+pub fn open_with_classes(shape: Shape, class_text: &[u8]) -> Ended {
     let mut floats = [0u32; 512];
     let mut window = [0u32; 32];
     let mut counts = [0u16; 16];
@@ -37,6 +43,7 @@ pub fn open_block(shape: Shape) -> Ended {
         &mut slot_counts[..],
         &mut slot_starts[..],
         &mut slot_ends[..],
+        class_text,
     );
     let store = r.store;
     let answer = r.answer;

@@ -28,7 +28,6 @@ use Rattle.store_definitions.specs.Parts.{baseOf, tableLength, pointTable, labe
 use Rattle.store_definitions.specs.Decisions.{andThen, refuseIf, formDecided}
 use Rattle.store_definitions.specs.Rows.{roomMade, copyOf}
 use Rattle.store_definitions.specs.Adding.{pointLength, waits, tableFull, entriesFilled, AddDecided, keep, wait, thenAdd, addDecided, windowAfter, sequenced, rowOf, labelled, tableGrown, placed, joins, overflows, laidRows, laidHow, keptAfter, indexGiven}
-use Rattle.store_definitions.specs.WellFormed.{classTable}
 use Rattle.store_laws.specs.BoundsLaws.{dims-product}
 use Rattle.store_laws.specs.Sound.{Sound}
 use Rattle.store_laws.specs.PlacesLaws.{live-make, live-placed}
@@ -232,10 +231,10 @@ module _ {E : Type 0} (eq : E → E → Bool) (zeroElement : E) (h : Shape) (the
     unfolding keptAfter labelled
     add-kept g of-row of-place now =
         by-cases (λ q. then g ≡ placed (tableGrown (withRows (laidRows eq u room row) (sequenced q point))) place → Sound (placed (tableGrown (withRows (laidRows eq u room row) (sequenced q point))) place) → Relates eq h then (changedHistory g (gave (indexGiven p)) accepted) (placed (tableGrown (withRows (laidRows eq u room row) (sequenced q point))) place))
-        (u .«store_labels») (withLabels (labelTaken classTable (u .capacity) (labelHalf p) code .after) p) p
+        (u .«store_labels») (withLabels (labelTaken (u .classes) (u .capacity) (labelHalf p) code .after) p) p
         (λ on.
-        laid-given (labelTaken classTable (u .capacity) (labelHalf p) code .after)
-        (with-labels p w (labelTaken classTable (u .capacity) (labelHalf p) code .after) (label-keeps classTable (u .capacity) (labelHalf p) (w .labels on) code (k .accepted .coded on) (k .label-free on)))
+        laid-given (labelTaken (u .classes) (u .capacity) (labelHalf p) code .after)
+        (with-labels p w (labelTaken (u .classes) (u .capacity) (labelHalf p) code .after) (label-keeps (u .classes) (u .capacity) (labelHalf p) (w .labels on) code (k .accepted .coded on) (k .label-free on)))
         g of-row of-place)
         (λ off. laid-given (labelHalf p) w g of-row of-place)
         now

@@ -11,7 +11,7 @@ use Rattle.store_definitions.specs.Rows.{compactSpec, copySpec}
 use Rattle.store_definitions.specs.Adding.{addSpec}
 
 module _ {E : Type 0} (zeroElement : E) where
-  abbrev pub openCall : Shape → Memory E → Outcome E
+  abbrev pub openCall : Shape → List ℕ → Memory E → Outcome E
   openCall = openSpec zeroElement
 
   abbrev pub compactCall : PointStore E → Outcome E

@@ -6,6 +6,13 @@ use mathlib.Core.List.{List, [], _∷_}
 use mathlib.Core.Path.{_≡_, refl}
 use lib.ListN.{replicate}
 use Rattle.float_bits.specs.Words.{plusZero, minusZero, wordsEqual}
+use Rattle.terms.specs.Below.{everyBelow}
+use Rattle.terms.specs.Rows.{allEqual}
+use Rattle.decimal.specs.Field.{column, columns, field, digit, valueFrom}
+use Rattle.decimal.specs.Lines.{fields, line, lines}
+use Rattle.class_table.specs.Table.{someBelow, largestBelow, tableAllowed}
+use Rattle.class_table.specs.Reasons.{reasonClasses}
+use Rattle.class_table.specs.Text.{numbered, tableText, classesOf, tableRead}
 use Rattle.labels.specs.Decisions.{none}
 use Rattle.store_definitions.specs.declared.Shape.{Shape}
 use Rattle.store_definitions.specs.Memory.{Memory, PointStore}
@@ -80,11 +87,15 @@ rubbish h =
       attributeEnds = labels;
     }
 
+-- document 01's classes
+abbrev pub table : List ℕ
+table = tableText reasonClasses
+
 unfoldable pub fresh : Shape → PointStore ℕ
-fresh h = opened 0 h (rubbish h)
+fresh h = opened 0 h table (rubbish h)
 
 abbrev pub Opens : Shape → Type 0
-Opens h = openCall 0 h (rubbish h) ≡ outcome done (fresh h)
+Opens h = openCall 0 h table (rubbish h) ≡ outcome done (fresh h)
 
 pub record AllOpen : Type 0 where
   pub plain : Opens plain
@@ -94,7 +105,7 @@ pub record AllOpen : Type 0 where
   pub small-labelled : Opens smallLabelled
 
 pub opening : AllOpen
-unfolding fresh openSpec openDecided boundsHold startAllowed labelsLent lentEnough
+unfolding fresh openSpec openDecided boundsHold startAllowed labelsLent lentEnough tableRead tableText numbered classesOf lines line fields field columns column valueFrom digit allEqual reasonClasses tableAllowed everyBelow someBelow largestBelow
 opening = record { plain = refl; turning = refl; small-plain = refl; small-turning = refl; small-labelled = refl }
 
 abbrev pub past : Shape → List (Call ℕ) → History ℕ

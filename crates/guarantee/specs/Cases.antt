@@ -9,6 +9,11 @@ use Rattle.terms.specs.Below.{everyBelow, sumBelow, countBelow}
 use Rattle.terms.specs.Rows.{allEqual}
 use Rattle.terms.specs.Search.{firstBelow}
 use Rattle.float_bits.specs.Words.{plusZero, minusZero, wordsEqual}
+use Rattle.decimal.specs.Field.{column, columns, field, digit, valueFrom}
+use Rattle.decimal.specs.Lines.{fields, line, lines}
+use Rattle.class_table.specs.Reasons.{reasonClasses}
+use Rattle.class_table.specs.Table.{someBelow, largestBelow, tableAllowed}
+use Rattle.class_table.specs.Text.{numbered, tableText, classesOf, tableRead}
 use Rattle.interval_store_manager.specs.Calls.{pushed, changed, taken, released}
 use Rattle.interval_store_manager.specs.Intervals.{inside, holders, isFree, inBounds, noneShared}
 use Rattle.interval_store_manager.specs.WellFormed.{capacityAllowed, lentEnough as stackLent, wellFormed as managerWellFormed}
@@ -23,7 +28,6 @@ use Rattle.placement.specs.Overlap.{overlaps}
 use Rattle.placement.specs.Row.{rowToLay, movedWindow}
 use Rattle.labels.specs.Counted.{managed, freeUncounted, countsFit, indexTaken, raised, lowered, liveNumber}
 use Rattle.labels.specs.Decisions.{none, codeDecided, roomDecided, inUse, incDecided, decDecided}
-use Rattle.labels.specs.Classes.{reasonClasses}
 use Rattle.labels.specs.Labels.{labelsWell, differ, slotSum, labelTaken, slotTaken, classSlot, holdsClass, tablesLent, codesAllowed, slotsHoldClasses, classesDistinct, slotsSummed, labelRaised, labelLowered}
 use Rattle.labels.specs.Opening.{labelsOpened}
 use Rattle.store_definitions.specs.Answers.{kept, done, is, refused, refusedAfter, Output, output}
@@ -85,7 +89,7 @@ pub record Computed : Type 0 where
   pub c-nan : copyCall (store smallPlain listNaN) 1 (replicate 2 0) .out ≡ aNaN ∷ 2 ∷ []
 
 pub computed : Computed
-unfolding fresh openedMemory opened after history recorded changedBy pairChanges pairsChanges joinedPoints rowOfAdd liveIndices everyBelow sumBelow countBelow allEqual pushed changed taken released inside holders isFree inBounds noneShared capacityAllowed stackLent managerWellFormed wrappingSub wrappingAdd alignment zerosBefore pointRoom holds liveBelow moved grownBlocks blocks blockMoves copiedDown settled blockDown blocksDown writtenByBlocks compacted turn turned copied grown writtenCount laidAs laidElements laidFree placeOf overlaps rowToLay movedWindow managed freeUncounted countsFit indexTaken lowered liveNumber codeDecided roomDecided incDecided decDecided raised incTest incremented incSpec pairDecided pairDone adjustFrom adjustSpec decTest placeAfterDec decremented decSpec compactedRows grownRows short roomMade compactSpec copyOf pointLength waits tableFull entriesFilled addDecided windowAfter sequenced rowOf labelGiven labelled tableGrown placed joins overflows laidRows laidHow keptAfter indexGiven keeps addSpec boundsHold rotationAllowed lentEnough formDecided live touchDecided tableLengthWell storeLengthWell freeStartWell emptyUncounted placesDistinct placesEnd sequenceWell wellFormed wordsEqual labelsLent labelsOpened labelsWell differ slotSum labelTaken slotTaken classSlot holdsClass tablesLent codesAllowed slotsHoldClasses classesDistinct slotsSummed labelRaised labelLowered firstBelow reasonClasses inUse liveNumberSpec freeStartSpec countSpec copyDecided copyWritten copySpec
+unfolding fresh openedMemory opened after history recorded changedBy pairChanges pairsChanges joinedPoints rowOfAdd liveIndices everyBelow sumBelow countBelow allEqual pushed changed taken released inside holders isFree inBounds noneShared capacityAllowed stackLent managerWellFormed wrappingSub wrappingAdd alignment zerosBefore pointRoom holds liveBelow moved grownBlocks blocks blockMoves copiedDown settled blockDown blocksDown writtenByBlocks compacted turn turned copied grown writtenCount laidAs laidElements laidFree placeOf overlaps rowToLay movedWindow managed freeUncounted countsFit indexTaken lowered liveNumber codeDecided roomDecided incDecided decDecided raised incTest incremented incSpec pairDecided pairDone adjustFrom adjustSpec decTest placeAfterDec decremented decSpec compactedRows grownRows short roomMade compactSpec copyOf pointLength waits tableFull entriesFilled addDecided windowAfter sequenced rowOf labelGiven labelled tableGrown placed joins overflows laidRows laidHow keptAfter indexGiven keeps addSpec boundsHold rotationAllowed lentEnough formDecided live touchDecided tableLengthWell storeLengthWell freeStartWell emptyUncounted placesDistinct placesEnd sequenceWell wellFormed wordsEqual tableRead tableText numbered classesOf lines line fields field columns column valueFrom digit tableAllowed someBelow largestBelow labelsLent labelsOpened labelsWell differ slotSum labelTaken slotTaken classSlot holdsClass tablesLent codesAllowed slotsHoldClasses classesDistinct slotsSummed labelRaised labelLowered firstBelow reasonClasses inUse liveNumberSpec freeStartSpec countSpec copyDecided copyWritten copySpec
 computed =
     record {
       d-d = refl;
@@ -146,7 +150,7 @@ pub record Said : Type 0 where
   pub nan : past smallPlain listNaN .life 1 ≡ alive 0 0 (gave listNaN (aNaN ∷ 2 ∷ []) 1)
 
 pub said : Said
-unfolding fresh openedMemory opened after history recorded changedBy pairChanges pairsChanges joinedPoints rowOfAdd liveIndices everyBelow sumBelow countBelow allEqual pushed changed taken released inside holders isFree inBounds noneShared capacityAllowed stackLent managerWellFormed wrappingSub wrappingAdd alignment zerosBefore pointRoom holds liveBelow moved grownBlocks blocks blockMoves copiedDown settled blockDown blocksDown writtenByBlocks compacted turn turned copied grown writtenCount laidAs laidElements laidFree placeOf overlaps rowToLay movedWindow managed freeUncounted countsFit indexTaken lowered liveNumber codeDecided roomDecided incDecided decDecided raised incTest incremented incSpec pairDecided pairDone adjustFrom adjustSpec decTest placeAfterDec decremented decSpec compactedRows grownRows short roomMade compactSpec copyOf pointLength waits tableFull entriesFilled addDecided windowAfter sequenced rowOf labelGiven labelled tableGrown placed joins overflows laidRows laidHow keptAfter indexGiven keeps addSpec boundsHold rotationAllowed lentEnough formDecided live touchDecided tableLengthWell storeLengthWell freeStartWell emptyUncounted placesDistinct placesEnd sequenceWell wellFormed wordsEqual labelsLent labelsOpened labelsWell differ slotSum labelTaken slotTaken classSlot holdsClass tablesLent codesAllowed slotsHoldClasses classesDistinct slotsSummed labelRaised labelLowered firstBelow reasonClasses inUse
+unfolding fresh openedMemory opened after history recorded changedBy pairChanges pairsChanges joinedPoints rowOfAdd liveIndices everyBelow sumBelow countBelow allEqual pushed changed taken released inside holders isFree inBounds noneShared capacityAllowed stackLent managerWellFormed wrappingSub wrappingAdd alignment zerosBefore pointRoom holds liveBelow moved grownBlocks blocks blockMoves copiedDown settled blockDown blocksDown writtenByBlocks compacted turn turned copied grown writtenCount laidAs laidElements laidFree placeOf overlaps rowToLay movedWindow managed freeUncounted countsFit indexTaken lowered liveNumber codeDecided roomDecided incDecided decDecided raised incTest incremented incSpec pairDecided pairDone adjustFrom adjustSpec decTest placeAfterDec decremented decSpec compactedRows grownRows short roomMade compactSpec copyOf pointLength waits tableFull entriesFilled addDecided windowAfter sequenced rowOf labelGiven labelled tableGrown placed joins overflows laidRows laidHow keptAfter indexGiven keeps addSpec boundsHold rotationAllowed lentEnough formDecided live touchDecided tableLengthWell storeLengthWell freeStartWell emptyUncounted placesDistinct placesEnd sequenceWell wellFormed wordsEqual tableRead tableText numbered classesOf lines line fields field columns column valueFrom digit tableAllowed someBelow largestBelow labelsLent labelsOpened labelsWell differ slotSum labelTaken slotTaken classSlot holdsClass tablesLent codesAllowed slotsHoldClasses classesDistinct slotsSummed labelRaised labelLowered firstBelow reasonClasses inUse
 said =
     record {
       a = refl;

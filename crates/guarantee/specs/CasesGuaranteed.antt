@@ -15,7 +15,7 @@ use Rattle.guarantee.specs.Calls.{copyCall, countCall, liveNumberCall}
 use Rattle.guarantee.specs.Run.{Call, add, dec, compact}
 use Rattle.guarantee.specs.Guarantee.{countAnswer, numberIn, liveIndices, Guarantee}
 use Rattle.guarantee.specs.Theorem.{guaranteed}
-use Rattle.guarantee.specs.CaseLists.{plain, turning, smallPlain, smallTurning, smallLabelled, rubbish, fresh, opening, past, store, gave, listA, listB, listC, listFour, listFive, listD, listG, listAdjust, listInsert, listSmall, third, listLabelled, listZeros, aNaN, listNaN}
+use Rattle.guarantee.specs.CaseLists.{plain, turning, smallPlain, smallTurning, smallLabelled, rubbish, table, fresh, opening, past, store, gave, listA, listB, listC, listFour, listFive, listD, listG, listAdjust, listInsert, listSmall, third, listLabelled, listZeros, aNaN, listNaN}
 use Rattle.guarantee.specs.Cases.{computed, said}
 
 -- what the guarantee gives of them
@@ -49,19 +49,19 @@ abbrev Holding : Shape → List (Call ℕ) → Type 0
 Holding h calls = Guarantee wordsEqual 0 h (fresh h) calls
 
 abbrev holding : (calls : List (Call ℕ)) → Holding plain calls
-holding calls = guaranteed wordsEqual 0 plain (fresh plain) (rubbish plain) (opening .plain) calls
+holding calls = guaranteed wordsEqual 0 plain (fresh plain) table (rubbish plain) (opening .plain) calls
 
 abbrev holding-turning : (calls : List (Call ℕ)) → Holding turning calls
-holding-turning calls = guaranteed wordsEqual 0 turning (fresh turning) (rubbish turning) (opening .turning) calls
+holding-turning calls = guaranteed wordsEqual 0 turning (fresh turning) table (rubbish turning) (opening .turning) calls
 
 abbrev holding-small : (calls : List (Call ℕ)) → Holding smallPlain calls
-holding-small calls = guaranteed wordsEqual 0 smallPlain (fresh smallPlain) (rubbish smallPlain) (opening .small-plain) calls
+holding-small calls = guaranteed wordsEqual 0 smallPlain (fresh smallPlain) table (rubbish smallPlain) (opening .small-plain) calls
 
 abbrev holding-small-turning : (calls : List (Call ℕ)) → Holding smallTurning calls
-holding-small-turning calls = guaranteed wordsEqual 0 smallTurning (fresh smallTurning) (rubbish smallTurning) (opening .small-turning) calls
+holding-small-turning calls = guaranteed wordsEqual 0 smallTurning (fresh smallTurning) table (rubbish smallTurning) (opening .small-turning) calls
 
 abbrev holding-labelled : (calls : List (Call ℕ)) → Holding smallLabelled calls
-holding-labelled calls = guaranteed wordsEqual 0 smallLabelled (fresh smallLabelled) (rubbish smallLabelled) (opening .small-labelled) calls
+holding-labelled calls = guaranteed wordsEqual 0 smallLabelled (fresh smallLabelled) table (rubbish smallLabelled) (opening .small-labelled) calls
 
 gives : Gives
 unfolding turn turned grown

@@ -24,11 +24,11 @@ no-points dims base window long zero h =
     rw e (drop-length (take dims window))
 no-points dims base window long (suc k) h = absurd (omega arith)
 
-module _ {E : Type 0} (eq : E → E → Bool) (zeroElement : E) (h : Shape) (m : Memory E) (then : Given E → PointStore E) where
+module _ {E : Type 0} (eq : E → E → Bool) (zeroElement : E) (h : Shape) (text : List ℕ) (m : Memory E) (then : Given E → PointStore E) where
   never : {A : Type 0} {x y : ℕ} {g : Given E} → dead ≡ alive x y g → A
   never e = absurd (let z : _≡_ {A = ℕ} 0 1 = cc in omega arith)
 
-  pub fresh : h .dimensions ≤ length (m .lastKnownShingle) → Relates eq h then nothing (opened zeroElement h m)
+  pub fresh : h .dimensions ≤ length (m .lastKnownShingle) → Relates eq h then nothing (opened zeroElement h text m)
   unfolding opened openedMemory joinedPoints
   fresh window =
       labels-aside eq h then (h .«store_labels») nothing (labelsOpened (h .capacity) (labelHalf bare)) bare
@@ -44,4 +44,4 @@ module _ {E : Type 0} (eq : E → E → Bool) (zeroElement : E) (h : Shape) (m :
       })
     where
       bare : PointStore E
-      bare = record { header = freshRecord h; memory = openedMemory zeroElement h m }
+      bare = record { header = freshRecord h text; memory = openedMemory zeroElement h m }

@@ -171,14 +171,14 @@ module _ {E : Type 0} (eq : E → E → Bool) (zeroElement : E) (h : Shape) (sta
           relates = call-kept eq zeroElement h then calls s p w r c (holds .well-formed) (λ row place. refl);
         }
 
-  module _ (m : Memory E) (accepted : openCall zeroElement h m ≡ outcome done start) where
+  module _ (text : List ℕ) (m : Memory E) (accepted : openCall zeroElement h text m ≡ outcome done start) where
     begin : Holds []
     unfolding after history
     begin =
-        let d = open-done h m zeroElement start accepted in
+        let d = open-done h text m zeroElement start accepted in
         record {
-          well-formed = opening-well-formed h m zeroElement start accepted;
-          relates = subst (Relates eq h then nothing) (sym (d .1)) (fresh eq zeroElement h m then (open-accepted h m (d .0) .enough .points-lent .window-lent));
+          well-formed = opening-well-formed h text m zeroElement start accepted;
+          relates = subst (Relates eq h then nothing) (sym (d .1)) (fresh eq zeroElement h text m then (open-accepted h text m (d .0) .enough .points-lent .window-lent));
         }
 
     run : (calls : List (Call E)) → Holds calls

@@ -13,7 +13,6 @@ ghost use Rattle.hold_check.specs.Rising.{ListRises};
 use crate::rise::live_rise;
 use label_check::labels_well_formed;
 use labels::LabelManagers;
-use labels::reason_classes;
 use store_check::Lengths;
 use store_check::places_distinct;
 use store_check::record_well;
@@ -112,7 +111,6 @@ pub fn store_well(
         );
         let well = points.ok;
         if well {
-            let classes = reason_classes();
             let label_manager = s.label_manager;
             let attribute_manager = s.attribute_manager;
             let managers = LabelManagers {
@@ -121,7 +119,7 @@ pub fn store_well(
             };
             let ok = labels_well_formed(
                 s.store_labels,
-                &classes,
+                &s.classes,
                 s.capacity,
                 managers,
                 labels,

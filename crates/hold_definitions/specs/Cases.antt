@@ -9,6 +9,11 @@ use Rattle.placement.specs.declared.Laid.the-variants.{Whole, Joined}
 use Rattle.terms.specs.Below.{one, everyBelow, sumBelow, countBelow}
 use Rattle.terms.specs.Rows.{allEqual}
 use Rattle.terms.specs.Search.{firstBelow}
+use Rattle.decimal.specs.Field.{column, columns, field, digit, valueFrom}
+use Rattle.decimal.specs.Lines.{fields, line, lines}
+use Rattle.class_table.specs.Reasons.{reasonClasses}
+use Rattle.class_table.specs.Table.{someBelow, largestBelow, tableAllowed}
+use Rattle.class_table.specs.Text.{numbered, tableText, classesOf, tableRead}
 use Rattle.interval_store_manager.specs.Calls.{pushed, changed, taken, released}
 use Rattle.interval_store_manager.specs.Intervals.{inside, holders, isFree, inBounds, noneShared}
 use Rattle.interval_store_manager.specs.WellFormed.{capacityAllowed, lentEnough as stackLent, wellFormed as managerWellFormed}
@@ -19,7 +24,6 @@ use Rattle.placement.specs.Growth.{grown}
 use Rattle.placement.specs.Laying.{writtenCount, laidAs, laidElements, laidFree, placeOf}
 use Rattle.placement.specs.Overlap.{overlaps}
 use Rattle.placement.specs.Row.{rowToLay, movedWindow}
-use Rattle.labels.specs.Classes.{reasonClasses}
 use Rattle.labels.specs.Counted.{managed, freeUncounted, countsFit, indexTaken, raised, lowered}
 use Rattle.labels.specs.Decisions.{none, inUse, codeDecided, roomDecided, incDecided, decDecided}
 use Rattle.labels.specs.Labels.{holdsClass, classSlot, slotTaken, labelTaken, labelRaised, labelLowered, slotSum, differ, tablesLent as labelTablesLent, codesAllowed, slotsHoldClasses, classesDistinct, slotsSummed, labelsWell}
@@ -124,7 +128,7 @@ started n cs o = opening (o .answer) n cs (o .after)
 
 -- a shape, a width, the calls, and the index that is copied in the end
 ran : Shape → ℕ → List Call → ℕ → Said
-ran s width calls i = started i calls (holdOpenSpec 0 s width (rubbish s (s .capacity)))
+ran s width calls i = started i calls (holdOpenSpec 0 s width (tableText reasonClasses) (rubbish s (s .capacity)))
 
 -- a case: what the calls give, and what is said of it
 record Case : Type 0 where
@@ -189,8 +193,12 @@ cases =
     ∷ record { found = ran (shape 1 1 1 false false false) 1 [] 0; expected = said (refused 15 ∷ []) [] [] [] }
     -- the shape before the width, the width before the memory
     ∷ record { found = ran (shape 0 1 4 false false false) 0 [] 0; expected = said (refused 2 ∷ []) [] [] [] }
-    ∷ record { found = started 0 [] (holdOpenSpec 0 plain 4 (rubbish plain 3)); expected = said (refused 15 ∷ []) [] [] [] }
-    ∷ record { found = started 0 [] (holdOpenSpec 0 plain 3 (rubbish plain 3)); expected = said (refused 1 ∷ []) [] [] [] }
+    ∷ record { found = started 0 [] (holdOpenSpec 0 plain 4 (tableText reasonClasses) (rubbish plain 3)); expected = said (refused 15 ∷ []) [] [] [] }
+    ∷ record { found = started 0 [] (holdOpenSpec 0 plain 3 (tableText reasonClasses) (rubbish plain 3)); expected = said (refused 1 ∷ []) [] [] [] }
+    -- a text that is no table's, after the width and the memory
+    ∷ record { found = started 0 [] (holdOpenSpec 0 plain 4 [] (rubbish plain 4)); expected = said (refused 15 ∷ []) [] [] [] }
+    ∷ record { found = started 0 [] (holdOpenSpec 0 plain 3 [] (rubbish plain 3)); expected = said (refused 1 ∷ []) [] [] [] }
+    ∷ record { found = started 0 [] (holdOpenSpec 0 plain 3 [] (rubbish plain 4)); expected = said (refused 17 ∷ []) [] [] [] }
     ∷ []
 
 -- an answer as numbers: which kind it is, and what it holds
@@ -218,7 +226,7 @@ stand (c ∷ cs) = agree (c .found) (c .expected) && stand cs
 
 -- every case gives what is said of it
 held-cases : stand cases ≡ true
-unfolding numbers same agree stand plain windowed rotating labelled-two cases shape rubbish inside-call called said run opening started ran everyBelow allEqual pushed changed taken released inside holders isFree inBounds noneShared capacityAllowed stackLent managerWellFormed wrappingSub wrappingAdd alignment zerosBefore holds liveBelow moved grownBlocks blocks blockMoves copiedDown settled blockDown blocksDown writtenByBlocks compacted turn turned copied grown writtenCount laidAs laidElements laidFree placeOf overlaps rowToLay movedWindow managed freeUncounted countsFit indexTaken lowered codeDecided roomDecided decDecided openDecided openedMemory opened decTest placeAfterDec decremented decSpec compactedRows grownRows short roomMade compactSpec copyOf pointLength waits tableFull addDecided windowAfter sequenced rowOf labelGiven labelled tableGrown placed joins overflows laidRows laidHow keptAfter indexGiven keeps addSpec boundsHold startAllowed rotationAllowed lentEnough formDecided live touchDecided tableLengthWell storeLengthWell freeStartWell emptyUncounted placesDistinct placesEnd sequenceWell wellFormed times everyNamed widthAllowed tablesLent namesLivePoints countedOnce ownLabels holdWellFormed holdOpenDecided holdOpenSpec gaveUp holding holdAddSpec sumBelow countBelow firstBelow raised inUse incDecided holdsClass classSlot slotTaken labelTaken labelRaised labelLowered slotSum differ labelTablesLent codesAllowed slotsHoldClasses classesDistinct slotsSummed labelsWell labelsOpened incTest incremented incSpec labelsLent reasonClasses
+unfolding numbers same agree stand plain windowed rotating labelled-two cases shape rubbish inside-call called said run opening started ran everyBelow allEqual pushed changed taken released inside holders isFree inBounds noneShared capacityAllowed stackLent managerWellFormed wrappingSub wrappingAdd alignment zerosBefore holds liveBelow moved grownBlocks blocks blockMoves copiedDown settled blockDown blocksDown writtenByBlocks compacted turn turned copied grown writtenCount laidAs laidElements laidFree placeOf overlaps rowToLay movedWindow managed freeUncounted countsFit indexTaken lowered codeDecided roomDecided decDecided openDecided openedMemory opened decTest placeAfterDec decremented decSpec compactedRows grownRows short roomMade compactSpec copyOf pointLength waits tableFull addDecided windowAfter sequenced rowOf labelGiven labelled tableGrown placed joins overflows laidRows laidHow keptAfter indexGiven keeps addSpec boundsHold startAllowed rotationAllowed lentEnough formDecided live touchDecided tableLengthWell storeLengthWell freeStartWell emptyUncounted placesDistinct placesEnd sequenceWell wellFormed times everyNamed widthAllowed tablesLent namesLivePoints countedOnce ownLabels holdWellFormed holdOpenDecided holdOpenSpec gaveUp holding holdAddSpec sumBelow countBelow firstBelow raised inUse incDecided holdsClass classSlot slotTaken labelTaken labelRaised labelLowered slotSum differ labelTablesLent codesAllowed slotsHoldClasses classesDistinct slotsSummed labelsWell labelsOpened incTest incremented incSpec labelsLent reasonClasses tableRead tableText numbered classesOf lines line fields field columns column valueFrom digit tableAllowed someBelow largestBelow
 held-cases = refl
 
 -- the readings after some calls: the number held, and what a slice of n entries gets
@@ -233,8 +241,8 @@ three : List Call
 three = add (10 ∷ []) 0 ∷ add (20 ∷ []) 0 ∷ add (30 ∷ []) 0 ∷ []
 
 -- a slice that is not as long as the list gets 3 and is left as it was
-held-readings : (same (read 2 three (holdOpenSpec 0 plain 2 (rubbish plain 4))) (3 ∷ 2 ∷ 2 ∷ 1 ∷ 2 ∷ [])
-    && (same (read 3 three (holdOpenSpec 0 plain 2 (rubbish plain 4))) (3 ∷ 2 ∷ 5 ∷ 3 ∷ 77 ∷ 77 ∷ 77 ∷ [])
-    && same (read 0 [] (holdOpenSpec 0 plain 2 (rubbish plain 4))) (3 ∷ 0 ∷ 2 ∷ []))) ≡ true
-unfolding readings read three numbers same plain shape rubbish inside-call called said run opening started ran everyBelow allEqual pushed changed taken released inside holders isFree inBounds noneShared capacityAllowed stackLent managerWellFormed wrappingSub wrappingAdd alignment zerosBefore holds liveBelow moved grownBlocks blocks blockMoves copiedDown settled blockDown blocksDown writtenByBlocks compacted turn turned copied grown writtenCount laidAs laidElements laidFree placeOf overlaps rowToLay movedWindow managed freeUncounted countsFit indexTaken lowered codeDecided roomDecided decDecided openDecided openedMemory opened decTest placeAfterDec decremented decSpec compactedRows grownRows short roomMade compactSpec copyOf pointLength waits tableFull addDecided windowAfter sequenced rowOf labelGiven labelled tableGrown placed joins overflows laidRows laidHow keptAfter indexGiven keeps addSpec boundsHold startAllowed rotationAllowed lentEnough formDecided live touchDecided tableLengthWell storeLengthWell freeStartWell emptyUncounted placesDistinct placesEnd sequenceWell wellFormed times everyNamed widthAllowed tablesLent namesLivePoints countedOnce ownLabels holdWellFormed holdOpenDecided holdOpenSpec gaveUp holding holdAddSpec sumBelow countBelow firstBelow raised inUse incDecided holdsClass classSlot slotTaken labelTaken labelRaised labelLowered slotSum differ labelTablesLent codesAllowed slotsHoldClasses classesDistinct slotsSummed labelsWell labelsOpened incTest incremented incSpec labelsLent holdFormDecided heldSpec heldNumberSpec
+held-readings : (same (read 2 three (holdOpenSpec 0 plain 2 (tableText reasonClasses) (rubbish plain 4))) (3 ∷ 2 ∷ 2 ∷ 1 ∷ 2 ∷ [])
+    && (same (read 3 three (holdOpenSpec 0 plain 2 (tableText reasonClasses) (rubbish plain 4))) (3 ∷ 2 ∷ 5 ∷ 3 ∷ 77 ∷ 77 ∷ 77 ∷ [])
+    && same (read 0 [] (holdOpenSpec 0 plain 2 (tableText reasonClasses) (rubbish plain 4))) (3 ∷ 0 ∷ 2 ∷ []))) ≡ true
+unfolding readings read three numbers same plain shape rubbish inside-call called said run opening started ran everyBelow allEqual pushed changed taken released inside holders isFree inBounds noneShared capacityAllowed stackLent managerWellFormed wrappingSub wrappingAdd alignment zerosBefore holds liveBelow moved grownBlocks blocks blockMoves copiedDown settled blockDown blocksDown writtenByBlocks compacted turn turned copied grown writtenCount laidAs laidElements laidFree placeOf overlaps rowToLay movedWindow managed freeUncounted countsFit indexTaken lowered codeDecided roomDecided decDecided openDecided openedMemory opened decTest placeAfterDec decremented decSpec compactedRows grownRows short roomMade compactSpec copyOf pointLength waits tableFull addDecided windowAfter sequenced rowOf labelGiven labelled tableGrown placed joins overflows laidRows laidHow keptAfter indexGiven keeps addSpec boundsHold startAllowed rotationAllowed lentEnough formDecided live touchDecided tableLengthWell storeLengthWell freeStartWell emptyUncounted placesDistinct placesEnd sequenceWell wellFormed times everyNamed widthAllowed tablesLent namesLivePoints countedOnce ownLabels holdWellFormed holdOpenDecided holdOpenSpec gaveUp holding holdAddSpec sumBelow countBelow firstBelow raised inUse incDecided holdsClass classSlot slotTaken labelTaken labelRaised labelLowered slotSum differ labelTablesLent codesAllowed slotsHoldClasses classesDistinct slotsSummed labelsWell labelsOpened incTest incremented incSpec labelsLent holdFormDecided heldSpec heldNumberSpec tableRead tableText numbered classesOf lines line fields field columns column valueFrom digit reasonClasses tableAllowed someBelow largestBelow
 held-readings = refl

@@ -25,7 +25,6 @@ use Rattle.store_definitions.specs.Decisions.{live}
 use Rattle.store_definitions.specs.Rows.{roomMade}
 use Rattle.store_definitions.specs.Counting.{placeAfterDec, decremented}
 use Rattle.store_definitions.specs.Adding.{entriesFilled, AddDecided, keep, wait, refuseAdd, addDecided, sequenced, rowOf, labelGiven, labelled, tableGrown, placed, overflows, laidRows, laidHow, keptAfter, indexGiven, keeps, addCarriedOut, addSpec}
-use Rattle.store_definitions.specs.WellFormed.{classTable}
 use Rattle.store_laws.specs.Sound.{Sound}
 use Rattle.store_laws.specs.Cases.{by-cases}
 use Rattle.store_laws.specs.TableLaws.{filled-before, filled-new, grown-ready}
@@ -253,9 +252,9 @@ module _ {E : Type 0} (eq : E → E → Bool) (zeroElement : E) (p : PointStore 
       table : Counted
       table = labelHalf p .labelTable
 
-      go : (b : Bool) → u .«store_labels» ≡ b → Gained p (placed (tableGrown (withRows (laidRows eq u room row) (sequenced (cond b (withLabels (labelTaken classTable (u .capacity) (labelHalf p) code .after) p) p) point))) place) (indexGiven p) (cond b (nextIndex table) none)
+      go : (b : Bool) → u .«store_labels» ≡ b → Gained p (placed (tableGrown (withRows (laidRows eq u room row) (sequenced (cond b (withLabels (labelTaken (u .classes) (u .capacity) (labelHalf p) code .after) p) p) point))) place) (indexGiven p) (cond b (nextIndex table) none)
       go true on =
-          let g = point-gained k (labelTaken classTable (u .capacity) (labelHalf p) code .after) in
+          let g = point-gained k (labelTaken (u .classes) (u .capacity) (labelHalf p) code .after) in
           let well = w .labels on .label-table in
           let below : nextIndex table < u .capacity = next-within (u .capacity) table well (k .label-free on) in
           record {

@@ -7,6 +7,11 @@ use lib.Dec.{eqb}
 use Rattle.terms.specs.Below.{everyBelow, sumBelow, countBelow}
 use Rattle.terms.specs.Rows.{allEqual}
 use Rattle.terms.specs.Search.{firstBelow}
+use Rattle.decimal.specs.Field.{column, columns, field, digit, valueFrom}
+use Rattle.decimal.specs.Lines.{fields, line, lines}
+use Rattle.class_table.specs.Reasons.{reasonClasses}
+use Rattle.class_table.specs.Table.{someBelow, largestBelow, tableAllowed}
+use Rattle.class_table.specs.Text.{numbered, tableText, classesOf, tableRead}
 use Rattle.interval_store_manager.specs.Calls.{pushed, changed, taken, released}
 use Rattle.interval_store_manager.specs.Intervals.{inside, holders, isFree, inBounds, noneShared}
 use Rattle.interval_store_manager.specs.WellFormed.{capacityAllowed, lentEnough as stackLent, wellFormed as managerWellFormed}
@@ -17,7 +22,6 @@ use Rattle.placement.specs.Growth.{grown}
 use Rattle.placement.specs.Laying.{writtenCount, laidAs, laidElements, laidFree, placeOf}
 use Rattle.placement.specs.Overlap.{overlaps}
 use Rattle.placement.specs.Row.{rowToLay, movedWindow}
-use Rattle.labels.specs.Classes.{reasonClasses}
 use Rattle.labels.specs.Counted.{managed, freeUncounted, countsFit, indexTaken, raised, lowered}
 use Rattle.labels.specs.Decisions.{none, inUse, codeDecided, roomDecided, incDecided, decDecided}
 use Rattle.labels.specs.Labels.{holdsClass, classSlot, slotTaken, labelTaken, labelRaised, labelLowered, slotSum, differ, tablesLent as labelTablesLent, codesAllowed, slotsHoldClasses, classesDistinct, slotsSummed, labelsWell}
@@ -45,7 +49,7 @@ after (c ∷ cs) h = after cs (called c h .after)
 held-by : Bool → ℕ → List Call → PointHold ℕ
 held-by labels width cs =
     let s = shape 1 1 4 false false labels in
-    after cs (holdOpenSpec 0 s width (rubbish s 4) .after)
+    after cs (holdOpenSpec 0 s width (tableText reasonClasses) (rubbish s 4) .after)
 
 -- another width, another number held, other tables
 remade : ℕ → ℕ → List ℕ → List ℕ → PointHold ℕ → PointHold ℕ
@@ -147,5 +151,5 @@ noneOne (h ∷ hs) = not (isOne (called (add (40 ∷ []) 0) h .answer)) && noneO
 
 -- the store inside is well-formed, and the hold is not
 each-clause : (allOne broken && noneOne whole) ≡ true
-unfolding after held-by remade recounted two three plain labelled-pair broken whole isOne allOne noneOne shape rubbish inside-call called everyBelow allEqual pushed changed taken released inside holders isFree inBounds noneShared capacityAllowed stackLent managerWellFormed wrappingSub wrappingAdd alignment zerosBefore holds liveBelow moved grownBlocks blocks blockMoves copiedDown settled blockDown blocksDown writtenByBlocks compacted turn turned copied grown writtenCount laidAs laidElements laidFree placeOf overlaps rowToLay movedWindow managed freeUncounted countsFit indexTaken lowered codeDecided roomDecided decDecided openDecided openedMemory opened decTest placeAfterDec decremented decSpec compactedRows grownRows short roomMade compactSpec copyOf pointLength waits tableFull addDecided windowAfter sequenced rowOf labelGiven labelled tableGrown placed joins overflows laidRows laidHow keptAfter indexGiven keeps addSpec boundsHold startAllowed rotationAllowed lentEnough formDecided live touchDecided tableLengthWell storeLengthWell freeStartWell emptyUncounted placesDistinct placesEnd sequenceWell wellFormed times everyNamed widthAllowed tablesLent namesLivePoints countedOnce ownLabels holdWellFormed holdOpenDecided holdOpenSpec gaveUp holding holdAddSpec sumBelow countBelow firstBelow raised inUse incDecided holdsClass classSlot slotTaken labelTaken labelRaised labelLowered slotSum differ labelTablesLent codesAllowed slotsHoldClasses classesDistinct slotsSummed labelsWell labelsOpened incTest incremented incSpec labelsLent reasonClasses
+unfolding after held-by remade recounted two three plain labelled-pair broken whole isOne allOne noneOne shape rubbish inside-call called everyBelow allEqual pushed changed taken released inside holders isFree inBounds noneShared capacityAllowed stackLent managerWellFormed wrappingSub wrappingAdd alignment zerosBefore holds liveBelow moved grownBlocks blocks blockMoves copiedDown settled blockDown blocksDown writtenByBlocks compacted turn turned copied grown writtenCount laidAs laidElements laidFree placeOf overlaps rowToLay movedWindow managed freeUncounted countsFit indexTaken lowered codeDecided roomDecided decDecided openDecided openedMemory opened decTest placeAfterDec decremented decSpec compactedRows grownRows short roomMade compactSpec copyOf pointLength waits tableFull addDecided windowAfter sequenced rowOf labelGiven labelled tableGrown placed joins overflows laidRows laidHow keptAfter indexGiven keeps addSpec boundsHold startAllowed rotationAllowed lentEnough formDecided live touchDecided tableLengthWell storeLengthWell freeStartWell emptyUncounted placesDistinct placesEnd sequenceWell wellFormed times everyNamed widthAllowed tablesLent namesLivePoints countedOnce ownLabels holdWellFormed holdOpenDecided holdOpenSpec gaveUp holding holdAddSpec sumBelow countBelow firstBelow raised inUse incDecided holdsClass classSlot slotTaken labelTaken labelRaised labelLowered slotSum differ labelTablesLent codesAllowed slotsHoldClasses classesDistinct slotsSummed labelsWell labelsOpened incTest incremented incSpec labelsLent reasonClasses tableRead tableText numbered classesOf lines line fields field columns column valueFrom digit tableAllowed someBelow largestBelow
 each-clause = refl

@@ -11,7 +11,7 @@ use Rattle.hold_definitions.specs.Adding.{holdAddSpec}
 use Rattle.hold_definitions.specs.Readings.{heldSpec, heldNumberSpec}
 
 module _ {E : Type 0} (zeroElement : E) where
-  abbrev pub holdOpenCall : Shape → ℕ → HoldMemory E → HoldOutcome E
+  abbrev pub holdOpenCall : Shape → ℕ → List ℕ → HoldMemory E → HoldOutcome E
   holdOpenCall = holdOpenSpec zeroElement
 
 module _ {E : Type 0} (eq : E → E → Bool) (zeroElement : E) where

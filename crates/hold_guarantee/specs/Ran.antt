@@ -20,13 +20,13 @@ use Rattle.hold_definitions.specs.Adding.{holdAddSpec}
 use Rattle.hold_definitions.specs.Lent.{holdEntered, holdLeft}
 use Rattle.hold_guarantee.specs.Run.{HoldAdd}
 
--- an opening that was accepted: of a shape and a width over this memory, with the hold that it gave
-pub data HoldOpened : Shape → ℕ → HoldMemory ℕ → PointHold ℕ → Type 0 where
+-- an opening that was accepted: of a shape, a width and a text of classes over this memory, with the hold that it gave
+pub data HoldOpened : Shape → ℕ → List ℕ → HoldMemory ℕ → PointHold ℕ → Type 0 where
   -- hold_opening::open_hold
-  opens : (shape : Shape) (width : ℕ) (store «last_known_shingle» «reference_count» location «index_starts» «index_ends» labels «label_attributes» «label_count» «label_starts» «label_ends» attributes «attribute_count» «attribute_starts» «attribute_ends» «held_indices» «held_labels» : Slice) (r : HoldDoneResult)
-      → holdOutcome (doneMeans (r .answer)) (pointHold (r .hold) (holdLeft store «last_known_shingle» «reference_count» location «index_starts» «index_ends» labels «label_attributes» «label_count» «label_starts» «label_ends» attributes «attribute_count» «attribute_starts» «attribute_ends» «held_indices» «held_labels»)) ≡ holdOpenSpec 0 shape width (holdEntered store «last_known_shingle» «reference_count» location «index_starts» «index_ends» labels «label_attributes» «label_count» «label_starts» «label_ends» attributes «attribute_count» «attribute_starts» «attribute_ends» «held_indices» «held_labels»)
+  opens : (shape : Shape) (width : ℕ) (store «last_known_shingle» «reference_count» location «index_starts» «index_ends» labels «label_attributes» «label_count» «label_starts» «label_ends» attributes «attribute_count» «attribute_starts» «attribute_ends» «held_indices» «held_labels» «class_text» : Slice) (r : HoldDoneResult)
+      → holdOutcome (doneMeans (r .answer)) (pointHold (r .hold) (holdLeft store «last_known_shingle» «reference_count» location «index_starts» «index_ends» labels «label_attributes» «label_count» «label_starts» «label_ends» attributes «attribute_count» «attribute_starts» «attribute_ends» «held_indices» «held_labels»)) ≡ holdOpenSpec 0 shape width (now («class_text» .entry)) (holdEntered store «last_known_shingle» «reference_count» location «index_starts» «index_ends» labels «label_attributes» «label_count» «label_starts» «label_ends» attributes «attribute_count» «attribute_starts» «attribute_ends» «held_indices» «held_labels»)
       → r .answer ≡ atDone.Done
-      → HoldOpened shape width (holdEntered store «last_known_shingle» «reference_count» location «index_starts» «index_ends» labels «label_attributes» «label_count» «label_starts» «label_ends» attributes «attribute_count» «attribute_starts» «attribute_ends» «held_indices» «held_labels») (pointHold (r .hold) (holdLeft store «last_known_shingle» «reference_count» location «index_starts» «index_ends» labels «label_attributes» «label_count» «label_starts» «label_ends» attributes «attribute_count» «attribute_starts» «attribute_ends» «held_indices» «held_labels»))
+      → HoldOpened shape width (now («class_text» .entry)) (holdEntered store «last_known_shingle» «reference_count» location «index_starts» «index_ends» labels «label_attributes» «label_count» «label_starts» «label_ends» attributes «attribute_count» «attribute_starts» «attribute_ends» «held_indices» «held_labels») (pointHold (r .hold) (holdLeft store «last_known_shingle» «reference_count» location «index_starts» «index_ends» labels «label_attributes» «label_count» «label_starts» «label_ends» attributes «attribute_count» «attribute_starts» «attribute_ends» «held_indices» «held_labels»))
 
 -- the adds made on a hold, their answers, and the hold that they left
 pub data HoldRan (start : PointHold ℕ) : List (HoldAdd ℕ) → List Answer → PointHold ℕ → Type 0 where

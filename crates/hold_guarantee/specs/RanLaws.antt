@@ -16,8 +16,8 @@ use Rattle.hold_guarantee.specs.Guarantee.{HoldGuarantee}
 use Rattle.hold_guarantee.specs.Theorem.{hold-guaranteed}
 use Rattle.hold_guarantee.specs.Ran.{HoldOpened, opens, HoldRan, none-yet, adds}
 
-pub opened-is : {s : Shape} {width : ℕ} {m : HoldMemory ℕ} {start : PointHold ℕ} → HoldOpened s width m start → holdOpenCall 0 s width m ≡ holdOutcome done start
-opened-is (opens s width a b c d e f g h i j k l m n o x y r ensures accepted) =
+pub opened-is : {s : Shape} {width : ℕ} {text : List ℕ} {m : HoldMemory ℕ} {start : PointHold ℕ} → HoldOpened s width text m start → holdOpenCall 0 s width text m ≡ holdOutcome done start
+opened-is (opens s width a b c d e f g h i j k l m n o x y t r ensures accepted) =
     sym ensures ∙ ap (λ (z : Done). holdOutcome (doneMeans z) (pointHold (r .hold) (holdLeft a b c d e f g h i j k l m n o x y))) accepted
 
 -- what a run answers
@@ -46,6 +46,6 @@ ran none-yet = record { hold = refl; answers-same = refl }
 ran (adds t a b c d e f g h i j k l m n o x y point label r before ensures) = one-more (record { point = now (point .entry); code = label }) ensures (ran before)
 
 -- and so the guarantee is one of the program
-pub hold-program-guaranteed : {s : Shape} {width : ℕ} {m : HoldMemory ℕ} {start : PointHold ℕ} {before : List (HoldAdd ℕ)} {answers : List Answer} {q : PointHold ℕ}
-    → HoldOpened s width m start → HoldRan start before answers q → IsHoldRun start before answers q × HoldGuarantee wordsEqual 0 s width start before
-hold-program-guaranteed {s} {width} {m} {start} {before} o x = (ran x, hold-guaranteed wordsEqual 0 s width start m (opened-is o) before)
+pub hold-program-guaranteed : {s : Shape} {width : ℕ} {text : List ℕ} {m : HoldMemory ℕ} {start : PointHold ℕ} {before : List (HoldAdd ℕ)} {answers : List Answer} {q : PointHold ℕ}
+    → HoldOpened s width text m start → HoldRan start before answers q → IsHoldRun start before answers q × HoldGuarantee wordsEqual 0 s width start before
+hold-program-guaranteed {s} {width} {text} {m} {start} {before} o x = (ran x, hold-guaranteed wordsEqual 0 s width start text m (opened-is o) before)

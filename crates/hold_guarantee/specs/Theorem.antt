@@ -43,22 +43,22 @@ unfolding newest
 newest-none Prim.Native.Nat.zero = refl
 newest-none (Prim.Native.Nat.suc n) = refl
 
-module _ {E : Type 0} (eq : E → E → Bool) (zeroElement : E) (s : Shape) (width : ℕ) (start : PointHold E) (m : HoldMemory E) (accepted : holdOpenCall zeroElement s width m ≡ holdOutcome done start) where
+module _ {E : Type 0} (eq : E → E → Bool) (zeroElement : E) (s : Shape) (width : ℕ) (start : PointHold E) (text : List ℕ) (m : HoldMemory E) (accepted : holdOpenCall zeroElement s width text m ≡ holdOutcome done start) where
   -- what an accepted opening of a hold is: one of its store, and an empty list of the width
   record Fresh : Type 0 where
     sound : HoldSound start
     wide : start .header .width ≡ width
     empty : start .header .held ≡ 0
-    of-store : openCall zeroElement s (m .store) ≡ outcome done (storeOf start)
+    of-store : openCall zeroElement s text (m .store) ≡ outcome done (storeOf start)
 
   fresh : Fresh
   unfolding openSpec
   fresh =
-      let d = hold-open-done s width m zeroElement start accepted in
+      let d = hold-open-done s width text m zeroElement start accepted in
       let same = sym (d .1) in
-      let o = hold-open-accepted s width m (d .0) in
+      let o = hold-open-accepted s width text m (d .0) in
       record {
-        sound = subst HoldSound same (fresh-sound zeroElement s width m (d .0));
+        sound = subst HoldSound same (fresh-sound zeroElement s width text m (d .0));
         wide = ap (λ (h : PointHold E). h .header .width) (sym same);
         empty = ap (λ (h : PointHold E). h .header .held) (sym same);
         of-store = rw (o .of-store) (ap (λ (h : PointHold E). outcome done (storeOf h)) same);
@@ -128,7 +128,7 @@ module _ {E : Type 0} (eq : E → E → Bool) (zeroElement : E) (s : Shape) (wid
 
   -- the list guarantee for the store's calls
   of-store : (adds : List (HoldAdd E)) → Guarantee eq zeroElement s (storeOf start) (calls adds)
-  of-store adds = guaranteed eq zeroElement s (storeOf start) (m .store) (fresh .of-store) (calls adds)
+  of-store adds = guaranteed eq zeroElement s (storeOf start) text (m .store) (fresh .of-store) (calls adds)
 
   module _ (adds : List (HoldAdd E)) where
     f : FollowsAfter adds

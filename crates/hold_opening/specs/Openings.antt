@@ -1,6 +1,7 @@
 -- Opening a hold as its code does it: the shape, the width and the two tables are judged, and then the store is opened.
 use Prim.Native.Nat.{ℕ, _≤_, _<_}
 use mathlib.Core.Bool.{Bool, true, false, cond, not, _&&_}
+use mathlib.Core.List.{List}
 use mathlib.Core.Path.{_≡_, refl, ap, _∙_}
 use lib.ListN.{length}
 use lib.Dec.{leb}
@@ -112,15 +113,15 @@ assoc go go (refuse n) d = refl
 assoc go (refuse n) c d = refl
 assoc (refuse n) b c d = refl
 
-module _ (s : Shape) (width : ℕ) (m : HoldMemory ℕ) where
+module _ (s : Shape) (width : ℕ) (text : List ℕ) (m : HoldMemory ℕ) where
   abbrev asked : Decided
   asked = openAsked s width (length (m .heldIndices)) (length (m .heldLabels))
 
-  decided-as : holdOpenDecided s width m ≡ andThen asked (openDecided s (m .store))
+  decided-as : holdOpenDecided s width text m ≡ andThen asked (openDecided s text (m .store))
   unfolding holdOpenDecided openAsked shapeAsked widthAsked tablesAsked tablesLent
-  decided-as = assoc (shapeAsked s) (widthAsked width (s .capacity)) (tablesAsked (s .capacity) (s .«store_labels») (length (m .heldIndices)) (length (m .heldLabels))) (openDecided s (m .store))
+  decided-as = assoc (shapeAsked s) (widthAsked width (s .capacity)) (tablesAsked (s .capacity) (s .«store_labels») (length (m .heldIndices)) (length (m .heldLabels))) (openDecided s text (m .store))
 
-  pub open-refused : (n : ℕ) → asked ≡ refuse n → holdOutcome (refused n) (pointHold noHold m) ≡ holdOpenSpec 0 s width m
+  pub open-refused : (n : ℕ) → asked ≡ refuse n → holdOutcome (refused n) (pointHold noHold m) ≡ holdOpenSpec 0 s width text m
   unfolding holdOpenSpec
   open-refused n e = rw (decided-as, e)
 
@@ -138,7 +139,7 @@ module _ (s : Shape) (width : ℕ) (m : HoldMemory ℕ) where
   around (refused n) p = holdOutcome (refused n) (pointHold noHold (tabled (p .memory)))
   around (refusedAfter n k) p = holdOutcome waiting (freshHold width p m)
 
-  carried-around : (d : Decided) → (let o = carriedOut d (pointStore noRecord (m .store)) (outcome done (opened 0 s (m .store))) in around (o .answer) (o .after)) ≡ holdOpenCarriedOut 0 d s width m
+  carried-around : (d : Decided) → (let o = carriedOut d (pointStore noRecord (m .store)) (outcome done (opened 0 s text (m .store))) in around (o .answer) (o .after)) ≡ holdOpenCarriedOut 0 d s width text m
   unfolding around
   carried-around go = refl
   carried-around (refuse n) = refl
@@ -148,12 +149,12 @@ module _ (s : Shape) (width : ℕ) (m : HoldMemory ℕ) where
   means-around atDone.Done r k = refl
   means-around (atDone.Refused n) r k = refl
 
-  pub open-done : asked ≡ go → (d : DoneResult) (k : Memory ℕ) → outcome (doneMeans (d .answer)) (pointStore (d .store) k) ≡ openSpec 0 s (m .store) → (r : HoldDoneResult) → r ≡ openedAs (d .answer) (d .store) width
-      → holdOutcome (doneMeans (r .answer)) (pointHold (r .hold) (tabled k)) ≡ holdOpenSpec 0 s width m
+  pub open-done : asked ≡ go → (d : DoneResult) (k : Memory ℕ) → outcome (doneMeans (d .answer)) (pointStore (d .store) k) ≡ openSpec 0 s text (m .store) → (r : HoldDoneResult) → r ≡ openedAs (d .answer) (d .store) width
+      → holdOutcome (doneMeans (r .answer)) (pointHold (r .hold) (tabled k)) ≡ holdOpenSpec 0 s width text m
   unfolding holdOpenSpec openSpec
   open-done e d k o r q =
       ap (λ (x : HoldDoneResult). holdOutcome (doneMeans (x .answer)) (pointHold (x .hold) (tabled k))) q
       ∙ means-around (d .answer) (d .store) k
       ∙ ap (λ (x : Outcome ℕ). around (x .answer) (x .after)) o
-      ∙ carried-around (openDecided s (m .store))
+      ∙ carried-around (openDecided s text (m .store))
       ∙ (rw (decided-as, e))

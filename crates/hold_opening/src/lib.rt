@@ -118,7 +118,7 @@ fn opened_hold(opened: DoneResult, width: usize) -> HoldDoneResult
     }
 }
 
-// The two tables are only measured: nothing is held yet.
+// The two tables are only measured: nothing is held yet. `class_text` is the table of reason classes as text.
 pub fn open_hold(
     shape: Shape,
     width: usize,
@@ -139,8 +139,9 @@ pub fn open_hold(
     attribute_ends: &mut [u16],
     held_indices: &[u16],
     held_labels: &[u16],
+    class_text: &[u8],
 ) -> HoldDoneResult
-    ensures { λ r. ⌜ holdOutcome (doneMeans (r .answer)) (pointHold (r .hold) (holdLeft store «last_known_shingle» «reference_count» location «index_starts» «index_ends» labels «label_attributes» «label_count» «label_starts» «label_ends» attributes «attribute_count» «attribute_starts» «attribute_ends» «held_indices» «held_labels»)) ≡ holdOpenSpec 0 shape width (holdEntered store «last_known_shingle» «reference_count» location «index_starts» «index_ends» labels «label_attributes» «label_count» «label_starts» «label_ends» attributes «attribute_count» «attribute_starts» «attribute_ends» «held_indices» «held_labels») ⌝ }
+    ensures { λ r. ⌜ holdOutcome (doneMeans (r .answer)) (pointHold (r .hold) (holdLeft store «last_known_shingle» «reference_count» location «index_starts» «index_ends» labels «label_attributes» «label_count» «label_starts» «label_ends» attributes «attribute_count» «attribute_starts» «attribute_ends» «held_indices» «held_labels»)) ≡ holdOpenSpec 0 shape width (now («class_text» .entry)) (holdEntered store «last_known_shingle» «reference_count» location «index_starts» «index_ends» labels «label_attributes» «label_count» «label_starts» «label_ends» attributes «attribute_count» «attribute_starts» «attribute_ends» «held_indices» «held_labels») ⌝ }
 {
     let d = open_decision(shape, width, held_indices.len(), held_labels.len());
     match d {
@@ -169,6 +170,7 @@ pub fn open_hold(
                 attribute_count,
                 attribute_starts,
                 attribute_ends,
+                class_text,
             );
             opened_hold(opened, width)
         }

@@ -10,7 +10,6 @@ mod take;
 
 pub use classes::LARGEST_CODE;
 pub use classes::class_of;
-pub use classes::reason_classes;
 pub use count::dec_label;
 pub use count::inc_label;
 pub use decide::code_decision;

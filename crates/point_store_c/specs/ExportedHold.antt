@@ -50,6 +50,6 @@ unfoldable pub shortHold : Shape → ℕ → ℕ
 shortHold s width = cond (shapeAllowed s) (cond (widthAllowed width (s .capacity)) 1 15) 2
 
 -- an opening, for a caller whose record held these words
-unfoldable pub holdExportedOpening : List ℕ → Shape → ℕ → HoldMemory ℕ → HoldExported
-holdExportedOpening words s width m =
-    cond (leb 17 (length words)) (holdOpenedAs words (holdOpenSpec 0 s width m)) (holdExported (shortHold s width) words [] m)
+unfoldable pub holdExportedOpening : List ℕ → Shape → ℕ → (text : List ℕ) → HoldMemory ℕ → HoldExported
+holdExportedOpening words s width text m =
+    cond (leb 41 (length words)) (holdOpenedAs words (holdOpenSpec 0 s width text m)) (holdExported (shortHold s width) words [] m)

@@ -62,13 +62,13 @@ module _ (s : Shape) (width : ℕ) (within : Bool) (e : within ≡ boundsHold (s
   unfolding shortHold startAllowed
   short-shape t = rw (sym e, t)
 
-module _ (words : List ℕ) (s asked : Shape) (read-in : s ≡ asked) (width : ℕ) (m : HoldMemory ℕ) where
-  pub hold-open-short : (n : ℕ) → length words < 17 → n ≡ shortHold s width → holdExported n words [] m ≡ holdExportedOpening words asked width m
+module _ (words : List ℕ) (s asked : Shape) (read-in : s ≡ asked) (width : ℕ) (text : List ℕ) (m : HoldMemory ℕ) where
+  pub hold-open-short : (n : ℕ) → length words < 41 → n ≡ shortHold s width → holdExported n words [] m ≡ holdExportedOpening words asked width text m
   unfolding holdExportedOpening
-  hold-open-short n l e = rw (lt-leb 17 (length words) l, e, read-in)
+  hold-open-short n l e = rw (lt-leb 41 (length words) l, e, read-in)
 
-  pub hold-open-long : (a : Answer) (h : Hold) (m′ : HoldMemory ℕ) (n : ℕ) (words′ : List ℕ) → 17 ≤ length words → holdOutcome a (pointHold h m′) ≡ holdOpenSpec 0 s width m → (n ≡ returned a) × (words′ ≡ holdOpenedWords words a h) → holdExported n words′ [] m′ ≡ holdExportedOpening words asked width m
+  pub hold-open-long : (a : Answer) (h : Hold) (m′ : HoldMemory ℕ) (n : ℕ) (words′ : List ℕ) → 41 ≤ length words → holdOutcome a (pointHold h m′) ≡ holdOpenSpec 0 s width text m → (n ≡ returned a) × (words′ ≡ holdOpenedWords words a h) → holdExported n words′ [] m′ ≡ holdExportedOpening words asked width text m
   unfolding holdExportedOpening
   hold-open-long a h m′ n words′ l ensures e =
-      rw (e .0, e .1, le-leb 17 (length words) l)
-      (ap (holdOpenedAs words) (ensures ∙ ap (λ (k : Shape). holdOpenSpec 0 k width m) read-in))
+      rw (e .0, e .1, le-leb 41 (length words) l)
+      (ap (holdOpenedAs words) (ensures ∙ ap (λ (k : Shape). holdOpenSpec 0 k width text m) read-in))

@@ -39,6 +39,6 @@ unfoldable pub shortProbes : Shape → ℕ
 shortProbes s = cond (shapeAllowed s && eightProbes (s .dimensions) (s .«shingle_size») (s .«internal_shingling»)) 1 2
 
 -- an opening, for a caller whose record held these words
-unfoldable pub probesExportedOpening : List ℕ → Shape → Memory ℕ → Exported
-probesExportedOpening words s m =
-    cond (leb 23 (length words)) (probesOpenedAs words (probesOpenSpec 0 s m)) (exported (shortProbes s) words [] m)
+unfoldable pub probesExportedOpening : List ℕ → Shape → (text : List ℕ) → Memory ℕ → Exported
+probesExportedOpening words s text m =
+    cond (leb 47 (length words)) (probesOpenedAs words (probesOpenSpec 0 s text m)) (exported (shortProbes s) words [] m)

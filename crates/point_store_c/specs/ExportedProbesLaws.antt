@@ -66,13 +66,13 @@ module _ (s : Shape) (within : Bool) (e : within ≡ boundsHold (s .dimensions) 
   unfolding shortProbes startAllowed
   short-shape t = rw (sym e, t)
 
-module _ (words : List ℕ) (s asked : Shape) (read-in : s ≡ asked) (m : Memory ℕ) where
-  pub probes-open-short : (n : ℕ) → length words < 23 → n ≡ shortProbes s → exported n words [] m ≡ probesExportedOpening words asked m
+module _ (words : List ℕ) (s asked : Shape) (read-in : s ≡ asked) (text : List ℕ) (m : Memory ℕ) where
+  pub probes-open-short : (n : ℕ) → length words < 47 → n ≡ shortProbes s → exported n words [] m ≡ probesExportedOpening words asked text m
   unfolding probesExportedOpening
-  probes-open-short n l e = rw (lt-leb 23 (length words) l, e, read-in)
+  probes-open-short n l e = rw (lt-leb 47 (length words) l, e, read-in)
 
-  pub probes-open-long : (a : Answer) (p : Probes) (m′ : Memory ℕ) (n : ℕ) (words′ : List ℕ) → 23 ≤ length words → probesOutcome a (pointProbes p m′) ≡ probesOpenSpec 0 s m → (n ≡ returned a) × (words′ ≡ probesOpenedWords words a p) → exported n words′ [] m′ ≡ probesExportedOpening words asked m
+  pub probes-open-long : (a : Answer) (p : Probes) (m′ : Memory ℕ) (n : ℕ) (words′ : List ℕ) → 47 ≤ length words → probesOutcome a (pointProbes p m′) ≡ probesOpenSpec 0 s text m → (n ≡ returned a) × (words′ ≡ probesOpenedWords words a p) → exported n words′ [] m′ ≡ probesExportedOpening words asked text m
   unfolding probesExportedOpening
   probes-open-long a p m′ n words′ l ensures e =
-      rw (e .0, e .1, le-leb 23 (length words) l)
-      (ap (probesOpenedAs words) (ensures ∙ ap (λ (k : Shape). probesOpenSpec 0 k m) read-in))
+      rw (e .0, e .1, le-leb 47 (length words) l)
+      (ap (probesOpenedAs words) (ensures ∙ ap (λ (k : Shape). probesOpenSpec 0 k text m) read-in))

@@ -122,6 +122,6 @@ shortRecord h =
     cond (boundsHold (h .dimensions) (h .«shingle_size») (h .capacity) && startAllowed (h .«initial_capacity») (h .capacity)) 1 2
 
 -- an opening, for a caller whose record held these words
-unfoldable pub exportedOpening : List ℕ → Shape → Memory ℕ → Exported
-exportedOpening words h m =
-    cond (leb 15 (length words)) (openedAs words (openSpec 0 h m)) (exported (shortRecord h) words [] m)
+unfoldable pub exportedOpening : List ℕ → Shape → (text : List ℕ) → Memory ℕ → Exported
+exportedOpening words h text m =
+    cond (leb 39 (length words)) (openedAs words (openSpec 0 h text m)) (exported (shortRecord h) words [] m)

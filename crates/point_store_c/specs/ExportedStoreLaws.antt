@@ -97,13 +97,13 @@ module _ (h : Shape) (within : Bool) (e : within ≡ boundsHold (h .dimensions) 
   unfolding shortRecord startAllowed
   short-refused t = rw (sym e, t)
 
-module _ (words : List ℕ) (h asked : Shape) (read-in : h ≡ asked) (m : Memory ℕ) where
-  pub open-short : (n : ℕ) → length words < 15 → n ≡ shortRecord h → exported n words [] m ≡ exportedOpening words asked m
+module _ (words : List ℕ) (h asked : Shape) (read-in : h ≡ asked) (text : List ℕ) (m : Memory ℕ) where
+  pub open-short : (n : ℕ) → length words < 39 → n ≡ shortRecord h → exported n words [] m ≡ exportedOpening words asked text m
   unfolding exportedOpening
-  open-short n l e = rw (lt-leb 15 (length words) l, e, read-in)
+  open-short n l e = rw (lt-leb 39 (length words) l, e, read-in)
 
-  pub open-long : (a : Answer) (s : Store) (m′ : Memory ℕ) (n : ℕ) (words′ : List ℕ) → 15 ≤ length words → outcome a (pointStore s m′) ≡ openSpec 0 h m → (n ≡ returned a) × (words′ ≡ openedWords words a s) → exported n words′ [] m′ ≡ exportedOpening words asked m
+  pub open-long : (a : Answer) (s : Store) (m′ : Memory ℕ) (n : ℕ) (words′ : List ℕ) → 39 ≤ length words → outcome a (pointStore s m′) ≡ openSpec 0 h text m → (n ≡ returned a) × (words′ ≡ openedWords words a s) → exported n words′ [] m′ ≡ exportedOpening words asked text m
   unfolding exportedOpening
   open-long a s m′ n words′ l ensures e =
-      rw (e .0, e .1, le-leb 15 (length words) l)
-      (ap (openedAs words) (ensures ∙ ap (λ (k : Shape). openSpec 0 k m) read-in))
+      rw (e .0, e .1, le-leb 39 (length words) l)
+      (ap (openedAs words) (ensures ∙ ap (λ (k : Shape). openSpec 0 k text m) read-in))

@@ -2,7 +2,7 @@
 use Prim.Native.Nat.{ℕ, _≤_, _<_}
 use mathlib.Core.Bool.{Bool, true, false}
 use mathlib.Core.List.{List}
-use mathlib.Core.Path.{_≡_, refl}
+use mathlib.Core.Path.{_≡_, refl, ap}
 use lib.Dec.{leb}
 use lib.ListN.{length, getD}
 use lib.Seq.{set-getD}
@@ -23,29 +23,29 @@ use Rattle.point_store_c.specs.ProbesRecords.{probesOut, talliesOut, leg
 -- ---- what the code's tests show
 
 pub record TalliesFit (words : List ℕ) : Type 0 where
-  pub long : 23 ≤ length words
-  pub fit-0 : getD words 15 0 < 4294967296
-  pub fit-1 : getD words 16 0 < 4294967296
-  pub fit-2 : getD words 17 0 < 4294967296
-  pub fit-3 : getD words 18 0 < 4294967296
-  pub fit-4 : getD words 19 0 < 4294967296
-  pub fit-5 : getD words 20 0 < 4294967296
-  pub fit-6 : getD words 21 0 < 4294967296
-  pub fit-7 : getD words 22 0 < 4294967296
+  pub long : 47 ≤ length words
+  pub fit-0 : getD words 39 0 < 4294967296
+  pub fit-1 : getD words 40 0 < 4294967296
+  pub fit-2 : getD words 41 0 < 4294967296
+  pub fit-3 : getD words 42 0 < 4294967296
+  pub fit-4 : getD words 43 0 < 4294967296
+  pub fit-5 : getD words 44 0 < 4294967296
+  pub fit-6 : getD words 45 0 < 4294967296
+  pub fit-7 : getD words 46 0 < 4294967296
 
 module _ (words : List ℕ) where
-  pub short-illegal : length words < 23 → false ≡ legalProbes words
+  pub short-illegal : length words < 47 → false ≡ legalProbes words
   unfolding legalProbes
-  short-illegal l = rw (lt-leb 23 (length words) l)
+  short-illegal l = rw (lt-leb 47 (length words) l)
 
-  pub long-legal : 23 ≤ length words → legalTallies words ≡ legalProbes words
+  pub long-legal : 47 ≤ length words → legalTallies words ≡ legalProbes words
   unfolding legalProbes
-  long-legal l = rw (le-leb 23 (length words) l)
+  long-legal l = rw (le-leb 47 (length words) l)
 
   pub legal : legalProbes words ≡ true → TalliesFit words
   unfolding legalProbes legalTallies
   legal e =
-      let a = both (leb 23 (length words)) _ e in
+      let a = both (leb 47 (length words)) _ e in
       let b0 = both _ _ (a .1) in
       let b1 = both _ _ (b0 .1) in
       let b2 = both _ _ (b1 .1) in
@@ -54,15 +54,15 @@ module _ (words : List ℕ) where
       let b5 = both _ _ (b4 .1) in
       let b6 = both _ _ (b5 .1) in
       record {
-        long = leb-true 23 (length words) (a .0);
-        fit-0 = ltb-true (getD words 15 0) 4294967296 (b0 .0);
-        fit-1 = ltb-true (getD words 16 0) 4294967296 (b1 .0);
-        fit-2 = ltb-true (getD words 17 0) 4294967296 (b2 .0);
-        fit-3 = ltb-true (getD words 18 0) 4294967296 (b3 .0);
-        fit-4 = ltb-true (getD words 19 0) 4294967296 (b4 .0);
-        fit-5 = ltb-true (getD words 20 0) 4294967296 (b5 .0);
-        fit-6 = ltb-true (getD words 21 0) 4294967296 (b6 .0);
-        fit-7 = ltb-true (getD words 22 0) 4294967296 (b6 .1);
+        long = leb-true 47 (length words) (a .0);
+        fit-0 = ltb-true (getD words 39 0) 4294967296 (b0 .0);
+        fit-1 = ltb-true (getD words 40 0) 4294967296 (b1 .0);
+        fit-2 = ltb-true (getD words 41 0) 4294967296 (b2 .0);
+        fit-3 = ltb-true (getD words 42 0) 4294967296 (b3 .0);
+        fit-4 = ltb-true (getD words 43 0) 4294967296 (b4 .0);
+        fit-5 = ltb-true (getD words 44 0) 4294967296 (b5 .0);
+        fit-6 = ltb-true (getD words 45 0) 4294967296 (b6 .0);
+        fit-7 = ltb-true (getD words 46 0) 4294967296 (b6 .1);
       }
 
   module _ (e : legalProbes words ≡ true) where
@@ -85,8 +85,8 @@ module _ (words : List ℕ) where
 
 -- the words of the store, then the tallies
 pub eight-more : (words words′ : List ℕ) (p : Probes) → words′ ≡ storeOut words (p .store) → talliesOut words′ (p .tallies) ≡ probesOut words p
-unfolding storeOut probesOut talliesOut
-eight-more words words′ p e = rw e
+unfolding probesOut
+eight-more words words′ p e = ap (λ (w : List ℕ). talliesOut w (p .tallies)) e
 
 -- a call that leaves the product leaves the record
 pub probes-record-kept : (words : List ℕ) → probesRecorded words (probesIn words) ≡ words
@@ -94,7 +94,7 @@ unfolding probesRecorded probesIn talliesOut
 probes-record-kept words = go (legalProbes words) refl
   where
     go : (b : Bool) → legalProbes words ≡ b → probesRecorded words (probesIn words) ≡ words
-    go true e = rw (e, record-kept words, set-getD words 15 0, set-getD words 16 0, set-getD words 17 0, set-getD words 18 0, set-getD words 19 0, set-getD words 20 0, set-getD words 21 0, set-getD words 22 0)
+    go true e = rw (e, record-kept words, set-getD words 39 0, set-getD words 40 0, set-getD words 41 0, set-getD words 42 0, set-getD words 43 0, set-getD words 44 0, set-getD words 45 0, set-getD words 46 0)
     go false e = rw e
 
 -- an illegal record holds an ill-formed product, which every call refuses with 1

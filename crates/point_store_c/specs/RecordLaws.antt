@@ -1,29 +1,42 @@
 -- A store comes back from its record, a record from its store, and an illegal record holds no store.
-use Prim.Native.Nat.{ℕ, zero, suc, _≤_, _<_}
+use Prim.Native.Nat.{ℕ, zero, suc, _+_, _≤_, _<_}
 use native.Mathlib.Omega.{arith}
 use mathlib.Core.Bool.{Bool, true, false, cond, _&&_}
 use mathlib.Core.List.{List, [], _∷_, _++_}
-use mathlib.Core.Path.{_≡_, refl, ap, _∙_}
+use mathlib.Core.Path.{_≡_, refl, sym, ap, _∙_}
 use lib.Dec.{leb, ltb, eqb}
-use lib.ListN.{length, getD, drop}
-use lib.Seq.{sets, sets-eq, set-getD}
+use lib.ListN.{length, getD, take, drop, length-append, List·getD-append}
+use lib.Seq.{sets, sets-eq, set-getD, take-at, getD-append-add}
 use borrow.Author.Tests.{le-leb, lt-leb, lt-ltb, leb-true, ltb-true}
 use mir.Val.{boolByte}
 use Rattle.terms.specs.Below.{one, both}
+use Rattle.class_words.specs.Words.{classesLegal}
+use Rattle.class_words.specs.WordsLaws.{small-make, read-written}
 use Rattle.store_definitions.specs.declared.Store.{Store}
 use Rattle.store_definitions.specs.Memory.{Memory, pointStore}
 use Rattle.store_definitions.specs.Bounds.{boundsHold}
 use Rattle.store_definitions.specs.Opening.{noRecord}
 use Rattle.store_definitions.specs.WellFormed.{wellFormed}
 use Rattle.point_store_c.specs.ExportedLaws.{cast-one}
-use Rattle.point_store_c.specs.Records.{storeWords, storeOut, legalRecord, storeRead, storeIn, recorded}
+use Rattle.point_store_c.specs.Records.{headWords, storeWords, storeOut, legalRecord, readWith, storeRead, storeIn, recorded}
 
--- the first fifteen words are the store's, and a longer record keeps its rest
-pub out-words : (words : List ℕ) (s : Store) → 15 ≤ length words → storeOut words s ≡ storeWords s ++ drop 15 words
+-- a store whose sequence number and classes have their sizes, as every store of the code's has
+pub record Sized (s : Store) : Type 0 where
+  pub sequence : s .«next_sequence_index» < 4294967296
+  pub codes : length (s .classes) ≡ 24
+  pub bytes : (code : ℕ) → code < 24 → getD (s .classes) code 0 < 256
+
+-- the first 39 words are the store's, and a longer record keeps its rest
+pub length-words : (s : Store) → length (s .classes) ≡ 24 → length (storeWords s) ≡ 39
+length-words s k = omega (arith, k)
+
+pub out-words : (words : List ℕ) (s : Store) → 39 ≤ length words → length (s .classes) ≡ 24 → storeOut words s ≡ storeWords s ++ drop 39 words
 unfolding storeOut
-out-words words s l = sets-eq (storeWords s) words 0 l
+out-words words s l k =
+    sets-eq (storeWords s) words 0 (omega (arith, k))
+    ∙ ap (λ (n : ℕ). storeWords s ++ drop n words) (let e : 0 + length (storeWords s) ≡ 39 = omega (arith, k) in e)
 
--- the words as the code stores them, a flag by its cast
+-- the words before the classes as the code stores them, a flag by its cast
 abbrev pub castWords : Store → List ℕ
 castWords s =
     s .dimensions ∷ s .«shingle_size» ∷ s .capacity
@@ -34,9 +47,13 @@ castWords s =
     ∷ s .«attribute_manager» .capacity ∷ s .«attribute_manager» .last_in_use
     ∷ []
 
-pub cast-out : (words : List ℕ) (s : Store) → sets words 0 (castWords s) ≡ storeOut words s
-unfolding storeOut
+pub cast-out : (words : List ℕ) (s : Store) → sets words 0 (castWords s) ≡ sets words 0 (headWords s)
 cast-out words s = rw (cast-one (s .«internal_shingling»), cast-one (s .«internal_rotation»), cast-one (s .«store_labels»))
+
+-- the words before the classes, then the classes
+pub classes-after : (words words′ : List ℕ) (s : Store) → words′ ≡ sets words 0 (headWords s) → sets words′ 15 (s .classes) ≡ storeOut words s
+unfolding storeOut
+classes-after words words′ s e = rw e
 
 flag-small : (b : Bool) → ltb (one b) 2 ≡ true
 flag-small true = refl
@@ -46,57 +63,61 @@ flag-back : (b : Bool) → eqb (one b) 1 ≡ b
 flag-back true = refl
 flag-back false = refl
 
-written-legal : (s : Store) (rest : List ℕ) → s .«next_sequence_index» < 4294967296 → legalRecord (storeWords s ++ rest) ≡ true
+written-legal : (s : Store) (rest : List ℕ) → Sized s → legalRecord (storeWords s ++ rest) ≡ true
 unfolding legalRecord
-written-legal s rest q =
-    rw (le-leb 15 (length (storeWords s ++ rest)) (omega arith), flag-small (s .«internal_shingling»), flag-small (s .«internal_rotation»), flag-small (s .«store_labels»), lt-ltb (s .«next_sequence_index») 4294967296 q)
+written-legal s rest z =
+    rw (le-leb 39 (length (storeWords s ++ rest)) (omega (arith, length-append (s .classes) rest, z .codes)), flag-small (s .«internal_shingling»), flag-small (s .«internal_rotation»), flag-small (s .«store_labels»), lt-ltb (s .«next_sequence_index») 4294967296 (z .sequence))
+    (small-make 15 (storeWords s ++ rest) (λ code l. rw (getD-append-add (headWords s) (s .classes ++ rest) code 0, List·getD-append (s .classes) rest 0 code (omega (arith, z .codes))) (z .bytes code l)))
 
-written-read : (s : Store) (rest : List ℕ) → storeRead (storeWords s ++ rest) ≡ s
-written-read s rest = rw (flag-back (s .«internal_shingling»), flag-back (s .«internal_rotation»), flag-back (s .«store_labels»))
+written-read : (s : Store) (rest : List ℕ) → length (s .classes) ≡ 24 → storeRead (storeWords s ++ rest) ≡ s
+written-read s rest k = rw (flag-back (s .«internal_shingling»), flag-back (s .«internal_rotation»), flag-back (s .«store_labels»), take-at (s .classes) rest 24 k)
 
-pub written-in : (s : Store) (rest : List ℕ) → s .«next_sequence_index» < 4294967296 → storeIn (storeWords s ++ rest) ≡ s
+pub written-in : (s : Store) (rest : List ℕ) → Sized s → storeIn (storeWords s ++ rest) ≡ s
 unfolding storeIn
-written-in s rest q = rw (written-legal s rest q) (written-read s rest)
+written-in s rest z = rw (written-legal s rest z) (written-read s rest (z .codes))
 
 -- a store written to a record that is long enough is read again
-pub in-out : (words : List ℕ) (s : Store) → 15 ≤ length words → s .«next_sequence_index» < 4294967296 → storeIn (storeOut words s) ≡ s
-in-out words s l q = ap storeIn (out-words words s l) ∙ written-in s (drop 15 words) q
+pub in-out : (words : List ℕ) (s : Store) → 39 ≤ length words → Sized s → storeIn (storeOut words s) ≡ s
+in-out words s l z = ap storeIn (out-words words s l (z .codes)) ∙ written-in s (drop 39 words) z
 
 -- what the code's tests show
-pub short-illegal : (words : List ℕ) → length words < 15 → false ≡ legalRecord words
+pub short-illegal : (words : List ℕ) → length words < 39 → false ≡ legalRecord words
 unfolding legalRecord
-short-illegal words l = rw (lt-leb 15 (length words) l)
+short-illegal words l = rw (lt-leb 39 (length words) l)
 
-pub long-legal : (words : List ℕ) → 15 ≤ length words → (ltb (getD words 3 0) 2 && (ltb (getD words 4 0) 2 && (ltb (getD words 5 0) 2 && ltb (getD words 8 0) 4294967296))) ≡ legalRecord words
+pub long-legal : (words : List ℕ) (b : Bool) → 39 ≤ length words → b ≡ classesLegal 15 words → (ltb (getD words 3 0) 2 && (ltb (getD words 4 0) 2 && (ltb (getD words 5 0) 2 && (ltb (getD words 8 0) 4294967296 && b)))) ≡ legalRecord words
 unfolding legalRecord
-long-legal words l = rw (le-leb 15 (length words) l)
+long-legal words b l e = rw (le-leb 39 (length words) l, e)
 
 pub record Legal (words : List ℕ) : Type 0 where
-  pub long : 15 ≤ length words
+  pub long : 39 ≤ length words
   pub shingling : getD words 3 0 < 2
   pub rotation : getD words 4 0 < 2
   pub labels : getD words 5 0 < 2
   pub sequence : getD words 8 0 < 4294967296
+  pub bytes : classesLegal 15 words ≡ true
 
 pub legal : (words : List ℕ) → legalRecord words ≡ true → Legal words
 unfolding legalRecord
 legal words e =
-    let p = both (leb 15 (length words)) _ e in
+    let p = both (leb 39 (length words)) _ e in
     let q = both (ltb (getD words 3 0) 2) _ (p .1) in
     let r = both (ltb (getD words 4 0) 2) _ (q .1) in
-    let t = both (ltb (getD words 5 0) 2) (ltb (getD words 8 0) 4294967296) (r .1) in
+    let t = both (ltb (getD words 5 0) 2) _ (r .1) in
+    let u = both (ltb (getD words 8 0) 4294967296) (classesLegal 15 words) (t .1) in
     record {
-      long = leb-true 15 (length words) (p .0);
+      long = leb-true 39 (length words) (p .0);
       shingling = ltb-true (getD words 3 0) 2 (q .0);
       rotation = ltb-true (getD words 4 0) 2 (r .0);
       labels = ltb-true (getD words 5 0) 2 (t .0);
-      sequence = ltb-true (getD words 8 0) 4294967296 (t .1);
+      sequence = ltb-true (getD words 8 0) 4294967296 (u .0);
+      bytes = u .1;
     }
 
 module _ (words : List ℕ) where
-  pub legal-read : legalRecord words ≡ true → storeRead words ≡ storeIn words
+  pub legal-read : (classes : List ℕ) → classes ≡ take 24 (drop 15 words) → legalRecord words ≡ true → readWith words classes ≡ storeIn words
   unfolding storeIn
-  legal-read e = rw e
+  legal-read classes q e = rw (e, q)
 
   pub illegal-read : legalRecord words ≡ false → noRecord ≡ storeIn words
   unfolding storeIn
@@ -116,11 +137,17 @@ flag-word (suc zero) l = refl
 flag-word (suc (suc n)) l = absurd (omega arith)
 
 -- a legal record is what its own store writes
+head-back : (words : List ℕ) → Legal words → sets words 0 (headWords (storeRead words)) ≡ words
+head-back words l =
+    rw (flag-word (getD words 3 0) (l .shingling), flag-word (getD words 4 0) (l .rotation), flag-word (getD words 5 0) (l .labels), set-getD words 0 0, set-getD words 1 0, set-getD words 2 0, set-getD words 3 0, set-getD words 4 0, set-getD words 5 0, set-getD words 6 0, set-getD words 7 0, set-getD words 8 0, set-getD words 9 0, set-getD words 10 0, set-getD words 11 0, set-getD words 12 0, set-getD words 13 0, set-getD words 14 0)
+
 pub out-in : (words : List ℕ) → legalRecord words ≡ true → storeOut words (storeIn words) ≡ words
-unfolding storeIn storeOut
 out-in words e =
     let l = legal words e in
-    rw (e, flag-word (getD words 3 0) (l .shingling), flag-word (getD words 4 0) (l .rotation), flag-word (getD words 5 0) (l .labels), set-getD words 0 0, set-getD words 1 0, set-getD words 2 0, set-getD words 3 0, set-getD words 4 0, set-getD words 5 0, set-getD words 6 0, set-getD words 7 0, set-getD words 8 0, set-getD words 9 0, set-getD words 10 0, set-getD words 11 0, set-getD words 12 0, set-getD words 13 0, set-getD words 14 0)
+    ap (storeOut words) (sym (legal-read words (take 24 (drop 15 words)) refl e))
+    ∙ sym (classes-after words (sets words 0 (headWords (storeRead words))) (storeRead words) refl)
+    ∙ ap (λ (w : List ℕ). sets w 15 (take 24 (drop 15 words))) (head-back words l)
+    ∙ read-written 15 words (l .long)
 
 -- a call that leaves the store leaves the record
 pub record-kept : (words : List ℕ) → recorded words (storeIn words) ≡ words

@@ -1,4 +1,4 @@
-// A hold's calls. Copy, count and the other readings are the store's, on the first fifteen words of the record.
+// A hold's calls. Copy, count and the other readings are the store's, on the store's words of the record.
 ghost use mathlib.Core.Path.{_≡_};
 ghost use Prim.Native.Nat.{_≤_};
 ghost use mathlib.Core.List.{[], _∷_};
@@ -43,7 +43,7 @@ fn short_hold(shape: Shape, width: usize) -> u64
 
 // A refused opening leaves the record.
 fn opened_hold_out(words: &mut [u64], result: HoldDoneResult) -> u64
-    requires { ⌜ 17 ≤ length (now words) ⌝ }
+    requires { ⌜ 41 ≤ length (now words) ⌝ }
     ensures { λ r. ⌜ (r ≡ returned (doneMeans (result .answer))) × (now (words .exit) ≡ holdOpenedWords (now (words .entry)) (doneMeans (result .answer)) (result .hold)) ⌝ }
 {
     let answer = result.answer;
@@ -77,6 +77,7 @@ pub extern "C" fn ps_hold_open(
     attribute_ends: &mut [u16],
     held_indices: &[u16],
     held_labels: &[u16],
+    class_text: &[u8],
     dimensions: usize,
     shingle_size: usize,
     capacity: usize,
@@ -86,7 +87,7 @@ pub extern "C" fn ps_hold_open(
     store_labels: usize,
     width: usize,
 ) -> u64
-    ensures { λ r. ⌜ holdExported r (now (words .exit)) [] (holdLeft store «last_known_shingle» «reference_count» location «index_starts» «index_ends» labels «label_attributes» «label_count» «label_starts» «label_ends» attributes «attribute_count» «attribute_starts» «attribute_ends» «held_indices» «held_labels») ≡ holdExportedOpening (now (words .entry)) (shapeIn dimensions «shingle_size» capacity «initial_capacity» «internal_shingling» «internal_rotation» «store_labels») width (holdEntered store «last_known_shingle» «reference_count» location «index_starts» «index_ends» labels «label_attributes» «label_count» «label_starts» «label_ends» attributes «attribute_count» «attribute_starts» «attribute_ends» «held_indices» «held_labels») ⌝ }
+    ensures { λ r. ⌜ holdExported r (now (words .exit)) [] (holdLeft store «last_known_shingle» «reference_count» location «index_starts» «index_ends» labels «label_attributes» «label_count» «label_starts» «label_ends» attributes «attribute_count» «attribute_starts» «attribute_ends» «held_indices» «held_labels») ≡ holdExportedOpening (now (words .entry)) (shapeIn dimensions «shingle_size» capacity «initial_capacity» «internal_shingling» «internal_rotation» «store_labels») width (now («class_text» .entry)) (holdEntered store «last_known_shingle» «reference_count» location «index_starts» «index_ends» labels «label_attributes» «label_count» «label_starts» «label_ends» attributes «attribute_count» «attribute_starts» «attribute_ends» «held_indices» «held_labels») ⌝ }
 {
     let shape = shape_in(
         dimensions,
@@ -120,6 +121,7 @@ pub extern "C" fn ps_hold_open(
         attribute_ends,
         held_indices,
         held_labels,
+        class_text,
     );
     opened_hold_out(words, result)
 }

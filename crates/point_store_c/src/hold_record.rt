@@ -9,7 +9,7 @@ use crate::record::store_out;
 use hold_definitions::Hold;
 use hold_opening::no_hold;
 
-pub const HOLD_WORDS: usize = 17;
+pub const HOLD_WORDS: usize = 41;
 
 // The hold that a record holds; one too short is read as the record of zeros, which every call refuses as ill-formed.
 pub fn hold_in(words: &[u64]) -> Hold
@@ -19,22 +19,22 @@ pub fn hold_in(words: &[u64]) -> Hold
         return no_hold();
     }
     let store = store_in(words);
-    let width = words[15] as usize;
-    let held = words[16] as usize;
+    let width = words[39] as usize;
+    let held = words[40] as usize;
     Hold { store, width, held }
 }
 
 // The two words after the store's.
 fn tail_write(words: &mut [u64], width: usize, held: usize)
-    requires { ⌜ 17 ≤ length (now words) ⌝ }
+    requires { ⌜ 41 ≤ length (now words) ⌝ }
     ensures { λ _. ⌜ now (words .exit) ≡ tailOut (now (words .entry)) width held ⌝ }
 {
-    words[15] = width as u64;
-    words[16] = held as u64;
+    words[39] = width as u64;
+    words[40] = held as u64;
 }
 
 pub fn hold_write(words: &mut [u64], h: Hold)
-    requires { ⌜ 17 ≤ length (now words) ⌝ }
+    requires { ⌜ 41 ≤ length (now words) ⌝ }
     ensures { λ _. ⌜ now (words .exit) ≡ holdOut (now (words .entry)) h ⌝ }
 {
     let s = h.store;

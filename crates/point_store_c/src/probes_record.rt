@@ -10,22 +10,22 @@ use crate::record::store_out;
 use probes_definitions::Probes;
 use probes_opening::no_probes;
 
-pub const PROBES_WORDS: usize = 23;
+pub const PROBES_WORDS: usize = 47;
 
 // A tally has 32 bits.
 const TALLY_END: u64 = 0x1_0000_0000;
 
 fn tallies_legal(words: &[u64]) -> bool
-    requires { ⌜ 23 ≤ length (now words) ⌝ }
+    requires { ⌜ 47 ≤ length (now words) ⌝ }
     ensures { λ r. ⌜ r ≡ legalTallies (now (words .entry)) ⌝ }
 {
-    (words[15] < TALLY_END)
-        & ((words[16] < TALLY_END)
-            & ((words[17] < TALLY_END)
-                & ((words[18] < TALLY_END)
-                    & ((words[19] < TALLY_END)
-                        & ((words[20] < TALLY_END)
-                            & ((words[21] < TALLY_END) & ((words[22] < TALLY_END))))))))
+    (words[39] < TALLY_END)
+        & ((words[40] < TALLY_END)
+            & ((words[41] < TALLY_END)
+                & ((words[42] < TALLY_END)
+                    & ((words[43] < TALLY_END)
+                        & ((words[44] < TALLY_END)
+                            & ((words[45] < TALLY_END) & ((words[46] < TALLY_END))))))))
 }
 
 // Whether the record has its words and each tally its 32 bits.
@@ -44,14 +44,14 @@ fn tallies_read(words: &[u64]) -> [u32; 8]
     ensures { λ r. ⌜ r ≡ talliesRead (now (words .entry)) ⌝ }
 {
     [
-        words[15] as u32,
-        words[16] as u32,
-        words[17] as u32,
-        words[18] as u32,
-        words[19] as u32,
-        words[20] as u32,
-        words[21] as u32,
-        words[22] as u32,
+        words[39] as u32,
+        words[40] as u32,
+        words[41] as u32,
+        words[42] as u32,
+        words[43] as u32,
+        words[44] as u32,
+        words[45] as u32,
+        words[46] as u32,
     ]
 }
 
@@ -69,21 +69,21 @@ pub fn probes_in(words: &[u64]) -> Probes
 
 // The eight words after the store's.
 fn tallies_write(words: &mut [u64], tallies: [u32; 8])
-    requires { ⌜ 23 ≤ length (now words) ⌝ }
+    requires { ⌜ 47 ≤ length (now words) ⌝ }
     ensures { λ _. ⌜ now (words .exit) ≡ talliesOut (now (words .entry)) tallies ⌝ }
 {
-    words[15] = tallies[0] as u64;
-    words[16] = tallies[1] as u64;
-    words[17] = tallies[2] as u64;
-    words[18] = tallies[3] as u64;
-    words[19] = tallies[4] as u64;
-    words[20] = tallies[5] as u64;
-    words[21] = tallies[6] as u64;
-    words[22] = tallies[7] as u64;
+    words[39] = tallies[0] as u64;
+    words[40] = tallies[1] as u64;
+    words[41] = tallies[2] as u64;
+    words[42] = tallies[3] as u64;
+    words[43] = tallies[4] as u64;
+    words[44] = tallies[5] as u64;
+    words[45] = tallies[6] as u64;
+    words[46] = tallies[7] as u64;
 }
 
 pub fn probes_write(words: &mut [u64], p: Probes)
-    requires { ⌜ 23 ≤ length (now words) ⌝ }
+    requires { ⌜ 47 ≤ length (now words) ⌝ }
     ensures { λ _. ⌜ now (words .exit) ≡ probesOut (now (words .entry)) p ⌝ }
 {
     let s = p.store;

@@ -2,21 +2,28 @@
 ghost use mathlib.Core.Path.{_≡_};
 ghost use Prim.Native.Nat.{_≤_, _<_};
 ghost use lib.ListN.{length, getD};
-ghost use Rattle.point_store_c.specs.Records.{storeOut, legalRecord, storeRead, storeIn, recorded};
+ghost use lib.Seq.{sets};
+ghost use Rattle.point_store_c.specs.Records.{headWords, storeOut, legalRecord, readWith, storeIn, recorded};
+use class_words::classes_in;
+use class_words::classes_legal;
+use class_words::classes_out;
 use interval_store_manager::IntervalStoreManager;
 use store_definitions::Store;
 use store_rows::no_record;
 
-pub const RECORD_WORDS: usize = 15;
+pub const RECORD_WORDS: usize = 39;
+// From here on one word a class of the table.
+const CLASS_WORDS: usize = 15;
 
-// Whether the record has its words, each flag is 0 or 1 and the sequence number has 32 bits.
+// Whether the record has its words, each flag is 0 or 1, the sequence number has 32 bits and each class is a byte.
 fn record_legal(words: &[u64]) -> bool
     ensures { λ r. ⌜ r ≡ legalRecord (now (words .entry)) ⌝ }
 {
     if words.len() < RECORD_WORDS {
         return false;
     }
-    (words[3] < 2) & ((words[4] < 2) & ((words[5] < 2) & (words[8] < 0x1_0000_0000)))
+    let classes = classes_legal(words, CLASS_WORDS);
+    (words[3] < 2) & ((words[4] < 2) & ((words[5] < 2) & ((words[8] < 0x1_0000_0000) & classes)))
 }
 
 // The store that a record holds; an illegal one is read as the record of zeros, which every call refuses as ill-formed.
@@ -24,7 +31,8 @@ pub fn store_in(words: &[u64]) -> Store
     ensures { λ r. ⌜ r ≡ storeIn (now (words .entry)) ⌝ }
 {
     if record_legal(words) {
-        return store_read(words);
+        let classes = classes_in(words, CLASS_WORDS);
+        return store_read(words, classes);
     }
     no_record()
 }
@@ -36,10 +44,10 @@ pub fn lent_store_in(words: &mut [u64]) -> Store
     store_in(words)
 }
 
-// Of a legal record.
-fn store_read(words: &[u64]) -> Store
-    requires { ⌜ (15 ≤ length (now words)) × (getD (now words) 8 0 < 4294967296) ⌝ }
-    ensures { λ r. ⌜ r ≡ storeRead (now (words .entry)) ⌝ }
+// Of a legal record, beside its classes.
+fn store_read(words: &[u64], classes: [u8; 24]) -> Store
+    requires { ⌜ (39 ≤ length (now words)) × (getD (now words) 8 0 < 4294967296) ⌝ }
+    ensures { λ r. ⌜ r ≡ readWith (now (words .entry)) classes ⌝ }
 {
     Store {
         dimensions: words[0] as usize,
@@ -63,12 +71,14 @@ fn store_read(words: &[u64]) -> Store
             capacity: words[13] as usize,
             last_in_use: words[14] as usize,
         },
+        classes,
     }
 }
 
-pub fn record_write(words: &mut [u64], s: Store)
-    requires { ⌜ 15 ≤ length (now words) ⌝ }
-    ensures { λ _. ⌜ now (words .exit) ≡ storeOut (now (words .entry)) s ⌝ }
+// The words before the classes.
+fn head_write(words: &mut [u64], s: Store)
+    requires { ⌜ 39 ≤ length (now words) ⌝ }
+    ensures { λ _. ⌜ now (words .exit) ≡ sets (now (words .entry)) 0 (headWords s) ⌝ }
 {
     words[0] = s.dimensions as u64;
     words[1] = s.shingle_size as u64;
@@ -85,6 +95,15 @@ pub fn record_write(words: &mut [u64], s: Store)
     words[12] = s.label_manager.last_in_use as u64;
     words[13] = s.attribute_manager.capacity as u64;
     words[14] = s.attribute_manager.last_in_use as u64;
+}
+
+pub fn record_write(words: &mut [u64], s: Store)
+    requires { ⌜ 39 ≤ length (now words) ⌝ }
+    ensures { λ _. ⌜ now (words .exit) ≡ storeOut (now (words .entry)) s ⌝ }
+{
+    head_write(words, s);
+    let classes = s.classes;
+    classes_out(words, CLASS_WORDS, classes);
 }
 
 // An illegal record is left as it was.

@@ -9,6 +9,11 @@ use Rattle.placement.specs.declared.Laid.the-variants.{Whole, Joined}
 use Rattle.terms.specs.Below.{one, everyBelow, sumBelow, countBelow}
 use Rattle.terms.specs.Rows.{allEqual}
 use Rattle.terms.specs.Search.{firstBelow}
+use Rattle.decimal.specs.Field.{column, columns, field, digit, valueFrom}
+use Rattle.decimal.specs.Lines.{fields, line, lines}
+use Rattle.class_table.specs.Reasons.{reasonClasses}
+use Rattle.class_table.specs.Table.{someBelow, largestBelow, tableAllowed}
+use Rattle.class_table.specs.Text.{numbered, tableText, classesOf, tableRead}
 use Rattle.interval_store_manager.specs.Calls.{pushed, changed, taken, released}
 use Rattle.interval_store_manager.specs.Intervals.{inside, holders, isFree, inBounds, noneShared}
 use Rattle.interval_store_manager.specs.WellFormed.{capacityAllowed, lentEnough as stackLent, wellFormed as managerWellFormed}
@@ -19,7 +24,6 @@ use Rattle.placement.specs.Growth.{grown}
 use Rattle.placement.specs.Laying.{writtenCount, laidAs, laidElements, laidFree, placeOf}
 use Rattle.placement.specs.Overlap.{overlaps}
 use Rattle.placement.specs.Row.{rowToLay, movedWindow}
-use Rattle.labels.specs.Classes.{reasonClasses}
 use Rattle.labels.specs.Counted.{managed, freeUncounted, countsFit, indexTaken, raised, lowered}
 use Rattle.labels.specs.Decisions.{none, inUse, codeDecided, roomDecided, decDecided}
 use Rattle.labels.specs.Labels.{holdsClass, classSlot, slotTaken, labelTaken, labelLowered, slotSum, differ, tablesLent as labelTablesLent, codesAllowed, slotsHoldClasses, classesDistinct, slotsSummed, labelsWell}
@@ -132,7 +136,7 @@ started n cs o = opening (o .answer) n cs (o .after)
 
 -- a shape, the calls, and the index that is copied in the end
 ran : Shape → List Call → ℕ → Said
-ran s calls i = started i calls (probesOpenSpec 0 s (rubbish s (s .capacity)))
+ran s calls i = started i calls (probesOpenSpec 0 s (tableText reasonClasses) (rubbish s (s .capacity)))
 
 -- a case: what the calls give, and what is said of it
 record Case : Type 0 where
@@ -222,8 +226,8 @@ cases =
     ∷ record { found = ran (shape 16 1 2 true false false) [] 0; expected = said (refused 2 ∷ []) [] [] [] }
     ∷ record { found = ran (shape 8 1 2 false false false) [] 0; expected = said (refused 2 ∷ []) [] [] [] }
     ∷ record { found = ran (shape 72 9 2 true false false) [] 0; expected = said (refused 2 ∷ []) [] [] [] }
-    ∷ record { found = started 0 [] (probesOpenSpec 0 (shape 8 2 2 true false false) (rubbish plain 1)); expected = said (refused 2 ∷ []) [] [] [] }
-    ∷ record { found = started 0 [] (probesOpenSpec 0 plain (rubbish plain 1)); expected = said (refused 1 ∷ []) [] [] [] }
+    ∷ record { found = started 0 [] (probesOpenSpec 0 (shape 8 2 2 true false false) (tableText reasonClasses) (rubbish plain 1)); expected = said (refused 2 ∷ []) [] [] [] }
+    ∷ record { found = started 0 [] (probesOpenSpec 0 plain (tableText reasonClasses) (rubbish plain 1)); expected = said (refused 1 ∷ []) [] [] [] }
     ∷ record { found = ran (shape 64 8 2 true false false) [] 0; expected = said [] zeros zeros [] }
     ∷ []
 
@@ -252,7 +256,7 @@ stand (c ∷ cs) = agree (c .found) (c .expected) && stand cs
 
 -- every case gives what is said of it
 probe-cases : stand cases ≡ true
-unfolding said run opening started ran first last plain windowed labelled-sets rotating zeros cases agree stand shape rubbish withInside sequenceMade called eight numbers same lastFloats anyAbsent filled tallied ofKinds anyAbove eightProbes talliesWithin probesWellFormed probesOpenDecided probesOpenSpec noEarlier setDecided kindsDecided setChecked setSpec setKindsSpec everyBelow allEqual pushed changed taken released inside holders isFree inBounds noneShared capacityAllowed stackLent managerWellFormed wrappingSub wrappingAdd alignment zerosBefore holds liveBelow moved grownBlocks blocks blockMoves copiedDown settled blockDown blocksDown writtenByBlocks compacted turn turned copied grown writtenCount laidAs laidElements laidFree placeOf overlaps rowToLay movedWindow managed freeUncounted countsFit indexTaken lowered codeDecided roomDecided decDecided openDecided openedMemory opened decTest placeAfterDec decremented decSpec compactedRows grownRows short roomMade copyOf pointLength waits tableFull entriesFilled addDecided windowAfter sequenced rowOf labelGiven labelled tableGrown placed joins overflows laidRows laidHow keptAfter indexGiven keeps addSpec boundsHold startAllowed rotationAllowed lentEnough formDecided live touchDecided tableLengthWell storeLengthWell freeStartWell emptyUncounted placesDistinct placesEnd sequenceWell wellFormed sumBelow countBelow firstBelow raised inUse holdsClass classSlot slotTaken labelTaken labelLowered slotSum differ labelTablesLent codesAllowed slotsHoldClasses classesDistinct slotsSummed labelsWell labelsOpened labelsLent reasonClasses
+unfolding said run opening started ran first last plain windowed labelled-sets rotating zeros cases agree stand shape rubbish withInside sequenceMade called eight numbers same lastFloats anyAbsent filled tallied ofKinds anyAbove eightProbes talliesWithin probesWellFormed probesOpenDecided probesOpenSpec noEarlier setDecided kindsDecided setChecked setSpec setKindsSpec everyBelow allEqual pushed changed taken released inside holders isFree inBounds noneShared capacityAllowed stackLent managerWellFormed wrappingSub wrappingAdd alignment zerosBefore holds liveBelow moved grownBlocks blocks blockMoves copiedDown settled blockDown blocksDown writtenByBlocks compacted turn turned copied grown writtenCount laidAs laidElements laidFree placeOf overlaps rowToLay movedWindow managed freeUncounted countsFit indexTaken lowered codeDecided roomDecided decDecided openDecided openedMemory opened decTest placeAfterDec decremented decSpec compactedRows grownRows short roomMade copyOf pointLength waits tableFull entriesFilled addDecided windowAfter sequenced rowOf labelGiven labelled tableGrown placed joins overflows laidRows laidHow keptAfter indexGiven keeps addSpec boundsHold startAllowed rotationAllowed lentEnough formDecided live touchDecided tableLengthWell storeLengthWell freeStartWell emptyUncounted placesDistinct placesEnd sequenceWell wellFormed sumBelow countBelow firstBelow raised inUse holdsClass classSlot slotTaken labelTaken labelLowered slotSum differ labelTablesLent codesAllowed slotsHoldClasses classesDistinct slotsSummed labelsWell labelsOpened labelsLent reasonClasses tableRead tableText numbered classesOf lines line fields field columns column valueFrom digit tableAllowed someBelow largestBelow
 probe-cases = refl
 
 -- the tallies after some sets, in a slice of n entries: one that is not as long as eight gets 3 and is left as it was
@@ -261,9 +265,9 @@ readings n [] p = numbers (talliesSpec p (replicate n 77) .answer) ++ talliesSpe
 readings n (c ∷ cs) p = readings n cs (called c p .after)
 
 read : ℕ → List Call → List ℕ
-read n cs = readings n cs (probesOpenSpec 0 plain (rubbish plain 2) .after)
+read n cs = readings n cs (probesOpenSpec 0 plain (tableText reasonClasses) (rubbish plain 2) .after)
 
 tally-readings : (same (read 8 (set (first (estimated 5) 1) 0 ∷ [])) (2 ∷ 1 ∷ replicate 7 0)
     && (same (read 7 []) (5 ∷ 3 ∷ replicate 7 77) && same (read 9 []) (5 ∷ 3 ∷ replicate 9 77))) ≡ true
-unfolding readings read first plain probesFormDecided talliesSpec shape rubbish withInside sequenceMade called eight numbers same lastFloats anyAbsent filled tallied ofKinds anyAbove eightProbes talliesWithin probesWellFormed probesOpenDecided probesOpenSpec noEarlier setDecided kindsDecided setChecked setSpec setKindsSpec everyBelow allEqual pushed changed taken released inside holders isFree inBounds noneShared capacityAllowed stackLent managerWellFormed wrappingSub wrappingAdd alignment zerosBefore holds liveBelow moved grownBlocks blocks blockMoves copiedDown settled blockDown blocksDown writtenByBlocks compacted turn turned copied grown writtenCount laidAs laidElements laidFree placeOf overlaps rowToLay movedWindow managed freeUncounted countsFit indexTaken lowered codeDecided roomDecided decDecided openDecided openedMemory opened decTest placeAfterDec decremented decSpec compactedRows grownRows short roomMade copyOf pointLength waits tableFull entriesFilled addDecided windowAfter sequenced rowOf labelGiven labelled tableGrown placed joins overflows laidRows laidHow keptAfter indexGiven keeps addSpec boundsHold startAllowed rotationAllowed lentEnough formDecided live touchDecided tableLengthWell storeLengthWell freeStartWell emptyUncounted placesDistinct placesEnd sequenceWell wellFormed sumBelow countBelow firstBelow raised inUse holdsClass classSlot slotTaken labelTaken labelLowered slotSum differ labelTablesLent codesAllowed slotsHoldClasses classesDistinct slotsSummed labelsWell labelsOpened labelsLent reasonClasses
+unfolding readings read first plain probesFormDecided talliesSpec shape rubbish withInside sequenceMade called eight numbers same lastFloats anyAbsent filled tallied ofKinds anyAbove eightProbes talliesWithin probesWellFormed probesOpenDecided probesOpenSpec noEarlier setDecided kindsDecided setChecked setSpec setKindsSpec everyBelow allEqual pushed changed taken released inside holders isFree inBounds noneShared capacityAllowed stackLent managerWellFormed wrappingSub wrappingAdd alignment zerosBefore holds liveBelow moved grownBlocks blocks blockMoves copiedDown settled blockDown blocksDown writtenByBlocks compacted turn turned copied grown writtenCount laidAs laidElements laidFree placeOf overlaps rowToLay movedWindow managed freeUncounted countsFit indexTaken lowered codeDecided roomDecided decDecided openDecided openedMemory opened decTest placeAfterDec decremented decSpec compactedRows grownRows short roomMade copyOf pointLength waits tableFull entriesFilled addDecided windowAfter sequenced rowOf labelGiven labelled tableGrown placed joins overflows laidRows laidHow keptAfter indexGiven keeps addSpec boundsHold startAllowed rotationAllowed lentEnough formDecided live touchDecided tableLengthWell storeLengthWell freeStartWell emptyUncounted placesDistinct placesEnd sequenceWell wellFormed sumBelow countBelow firstBelow raised inUse holdsClass classSlot slotTaken labelTaken labelLowered slotSum differ labelTablesLent codesAllowed slotsHoldClasses classesDistinct slotsSummed labelsWell labelsOpened labelsLent reasonClasses tableRead tableText numbered classesOf lines line fields field columns column valueFrom digit tableAllowed someBelow largestBelow
 tally-readings = refl

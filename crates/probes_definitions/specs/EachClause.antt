@@ -8,6 +8,11 @@ use lib.ListN.{replicate}
 use Rattle.terms.specs.Below.{one, everyBelow, sumBelow, countBelow}
 use Rattle.terms.specs.Rows.{allEqual}
 use Rattle.terms.specs.Search.{firstBelow}
+use Rattle.decimal.specs.Field.{column, columns, field, digit, valueFrom}
+use Rattle.decimal.specs.Lines.{fields, line, lines}
+use Rattle.class_table.specs.Reasons.{reasonClasses}
+use Rattle.class_table.specs.Table.{someBelow, largestBelow, tableAllowed}
+use Rattle.class_table.specs.Text.{numbered, tableText, classesOf, tableRead}
 use Rattle.interval_store_manager.specs.Calls.{pushed, changed, taken, released}
 use Rattle.interval_store_manager.specs.Intervals.{inside, holders, isFree, inBounds, noneShared}
 use Rattle.interval_store_manager.specs.WellFormed.{capacityAllowed, lentEnough as stackLent, wellFormed as managerWellFormed}
@@ -18,7 +23,6 @@ use Rattle.placement.specs.Growth.{grown}
 use Rattle.placement.specs.Laying.{writtenCount, laidAs, laidElements, laidFree, placeOf}
 use Rattle.placement.specs.Overlap.{overlaps}
 use Rattle.placement.specs.Row.{rowToLay, movedWindow}
-use Rattle.labels.specs.Classes.{reasonClasses}
 use Rattle.labels.specs.Counted.{managed, freeUncounted, countsFit, indexTaken, raised, lowered}
 use Rattle.labels.specs.Decisions.{inUse, codeDecided, roomDecided, decDecided}
 use Rattle.labels.specs.Labels.{holdsClass, classSlot, slotTaken, labelTaken, labelLowered, slotSum, differ, tablesLent as labelTablesLent, codesAllowed, slotsHoldClasses, classesDistinct, slotsSummed, labelsWell}
@@ -49,7 +53,7 @@ after (c ∷ cs) p = after cs (called c p .after)
 product : PointProbes ℕ
 product =
     let s = shape 16 2 2 true false false in
-    after (set (eight (estimated 1)) 0 ∷ []) (probesOpenSpec 0 s (rubbish s 2) .after)
+    after (set (eight (estimated 1)) 0 ∷ []) (probesOpenSpec 0 s (tableText reasonClasses) (rubbish s 2) .after)
 
 -- other tallies
 counting : List ℕ → PointProbes ℕ → PointProbes ℕ
@@ -58,7 +62,7 @@ counting tallies p = record { header = record { store = p .header .store; tallie
 -- a product around any fresh store
 around : Shape → PointProbes ℕ
 around s =
-    let p = openSpec 0 s (rubbish s 2) .after in
+    let p = openSpec 0 s (tableText reasonClasses) (rubbish s 2) .after in
     record { header = record { store = p .header; tallies = eight 0 }; memory = p .memory }
 
 broken : List (PointProbes ℕ)
@@ -98,5 +102,5 @@ noneOne (p ∷ ps) = not (isOne (called (set (eight (measured 1)) 0) p .answer))
 
 -- the store inside is well-formed, and the product is not
 each-clause : (allOne broken && noneOne whole) ≡ true
-unfolding after product counting around broken whole isOne allOne noneOne probesFormDecided talliesSpec shape rubbish withInside sequenceMade called eight numbers same lastFloats anyAbsent filled tallied ofKinds anyAbove eightProbes talliesWithin probesWellFormed probesOpenDecided probesOpenSpec noEarlier setDecided kindsDecided setChecked setSpec setKindsSpec everyBelow allEqual pushed changed taken released inside holders isFree inBounds noneShared capacityAllowed stackLent managerWellFormed wrappingSub wrappingAdd alignment zerosBefore holds liveBelow moved grownBlocks blocks blockMoves copiedDown settled blockDown blocksDown writtenByBlocks compacted turn turned copied grown writtenCount laidAs laidElements laidFree placeOf overlaps rowToLay movedWindow managed freeUncounted countsFit indexTaken lowered codeDecided roomDecided decDecided openDecided openedMemory opened openSpec decTest placeAfterDec decremented decSpec compactedRows grownRows short roomMade copyOf pointLength waits tableFull entriesFilled addDecided windowAfter sequenced rowOf labelGiven labelled tableGrown placed joins overflows laidRows laidHow keptAfter indexGiven keeps addSpec boundsHold startAllowed rotationAllowed lentEnough formDecided live touchDecided tableLengthWell storeLengthWell freeStartWell emptyUncounted placesDistinct placesEnd sequenceWell wellFormed sumBelow countBelow firstBelow raised inUse holdsClass classSlot slotTaken labelTaken labelLowered slotSum differ labelTablesLent codesAllowed slotsHoldClasses classesDistinct slotsSummed labelsWell labelsOpened labelsLent reasonClasses
+unfolding after product counting around broken whole isOne allOne noneOne probesFormDecided talliesSpec shape rubbish withInside sequenceMade called eight numbers same lastFloats anyAbsent filled tallied ofKinds anyAbove eightProbes talliesWithin probesWellFormed probesOpenDecided probesOpenSpec noEarlier setDecided kindsDecided setChecked setSpec setKindsSpec everyBelow allEqual pushed changed taken released inside holders isFree inBounds noneShared capacityAllowed stackLent managerWellFormed wrappingSub wrappingAdd alignment zerosBefore holds liveBelow moved grownBlocks blocks blockMoves copiedDown settled blockDown blocksDown writtenByBlocks compacted turn turned copied grown writtenCount laidAs laidElements laidFree placeOf overlaps rowToLay movedWindow managed freeUncounted countsFit indexTaken lowered codeDecided roomDecided decDecided openDecided openedMemory opened openSpec decTest placeAfterDec decremented decSpec compactedRows grownRows short roomMade copyOf pointLength waits tableFull entriesFilled addDecided windowAfter sequenced rowOf labelGiven labelled tableGrown placed joins overflows laidRows laidHow keptAfter indexGiven keeps addSpec boundsHold startAllowed rotationAllowed lentEnough formDecided live touchDecided tableLengthWell storeLengthWell freeStartWell emptyUncounted placesDistinct placesEnd sequenceWell wellFormed sumBelow countBelow firstBelow raised inUse holdsClass classSlot slotTaken labelTaken labelLowered slotSum differ labelTablesLent codesAllowed slotsHoldClasses classesDistinct slotsSummed labelsWell labelsOpened labelsLent reasonClasses tableRead tableText numbered classesOf lines line fields field columns column valueFrom digit tableAllowed someBelow largestBelow
 each-clause = refl

@@ -17,7 +17,6 @@ use Rattle.store_definitions.specs.Answers.{Answer, kept, waiting, done, is, sa
 use Rattle.store_definitions.specs.Parts.{baseOf, labelHalf, Rows, rowsOf, withRows, withPoints, withLabels}
 use Rattle.store_definitions.specs.Rows.{roomMade}
 use Rattle.store_definitions.specs.Adding.{pointLength, AddDecided, keep, wait, refuseAdd, addDecided, windowAfter, sequenced, rowOf, labelGiven, labelled, tableGrown, placed, overflows, laidRows, laidHow, keptAfter, indexGiven, keeps, addCarriedOut, addSpec}
-use Rattle.store_definitions.specs.WellFormed.{classTable}
 use Rattle.store_laws.specs.Cases.{by-cases}
 use Rattle.store_laws.specs.BoundsLaws.{base-divides}
 use Rattle.store_laws.specs.Sound.{Sound}
@@ -114,8 +113,8 @@ module _ {E : Type 0} where
     labelled-moved : Moved p point (sequenced (labelled p code) point)
     unfolding labelled
     labelled-moved =
-        by-cases (λ x. Moved p point (sequenced x point)) (p .header .«store_labels») (withLabels (labelTaken classTable (p .header .capacity) (labelHalf p) code .after) p) p
-        (λ on. labels-moved (labelTaken classTable (p .header .capacity) (labelHalf p) code .after))
+        by-cases (λ x. Moved p point (sequenced x point)) (p .header .«store_labels») (withLabels (labelTaken (p .header .classes) (p .header .capacity) (labelHalf p) code .after) p) p
+        (λ on. labels-moved (labelTaken (p .header .classes) (p .header .capacity) (labelHalf p) code .after))
         (λ off. waiting-moved)
 
     kept-moved : (eq : E → E → Bool) (r : Rows E) (row : List E) → Moved p point (keptAfter eq r row p point code)

@@ -13,7 +13,7 @@ use Rattle.probes_definitions.specs.Setting.{setSpec}
 use Rattle.probes_definitions.specs.Tallies.{talliesSpec}
 
 module _ {E : Type 0} (zeroElement : E) where
-  abbrev pub probesOpenCall : Shape → Memory E → ProbesOutcome E
+  abbrev pub probesOpenCall : Shape → List ℕ → Memory E → ProbesOutcome E
   probesOpenCall = probesOpenSpec zeroElement
 
 module _ {E : Type 0} (eq : E → E → Bool) (zeroElement : E) where

@@ -24,12 +24,12 @@ use Rattle.probes_definitions.specs.Setting.{kindsDecided, setSpec, setKindsSpe
 use Rattle.probes_guarantee.specs.Run.{ProbeSet}
 
 -- an opening that was accepted: of a shape over this memory, with the product that it gave
-pub data ProbesOpened : Shape → Memory ℕ → PointProbes ℕ → Type 0 where
+pub data ProbesOpened : Shape → List ℕ → Memory ℕ → PointProbes ℕ → Type 0 where
   -- probes_opening::open_probes
-  opens : (shape : Shape) (store «last_known_shingle» «reference_count» location «index_starts» «index_ends» labels «label_attributes» «label_count» «label_starts» «label_ends» attributes «attribute_count» «attribute_starts» «attribute_ends» : Slice) (r : ProbesDoneResult)
-      → probesOutcome (doneMeans (r .answer)) (pointProbes (r .probes) (left store «last_known_shingle» «reference_count» location «index_starts» «index_ends» labels «label_attributes» «label_count» «label_starts» «label_ends» attributes «attribute_count» «attribute_starts» «attribute_ends»)) ≡ probesOpenSpec 0 shape (entered store «last_known_shingle» «reference_count» location «index_starts» «index_ends» labels «label_attributes» «label_count» «label_starts» «label_ends» attributes «attribute_count» «attribute_starts» «attribute_ends»)
+  opens : (shape : Shape) (store «last_known_shingle» «reference_count» location «index_starts» «index_ends» labels «label_attributes» «label_count» «label_starts» «label_ends» attributes «attribute_count» «attribute_starts» «attribute_ends» «class_text» : Slice) (r : ProbesDoneResult)
+      → probesOutcome (doneMeans (r .answer)) (pointProbes (r .probes) (left store «last_known_shingle» «reference_count» location «index_starts» «index_ends» labels «label_attributes» «label_count» «label_starts» «label_ends» attributes «attribute_count» «attribute_starts» «attribute_ends»)) ≡ probesOpenSpec 0 shape (now («class_text» .entry)) (entered store «last_known_shingle» «reference_count» location «index_starts» «index_ends» labels «label_attributes» «label_count» «label_starts» «label_ends» attributes «attribute_count» «attribute_starts» «attribute_ends»)
       → r .answer ≡ atDone.Done
-      → ProbesOpened shape (entered store «last_known_shingle» «reference_count» location «index_starts» «index_ends» labels «label_attributes» «label_count» «label_starts» «label_ends» attributes «attribute_count» «attribute_starts» «attribute_ends») (pointProbes (r .probes) (left store «last_known_shingle» «reference_count» location «index_starts» «index_ends» labels «label_attributes» «label_count» «label_starts» «label_ends» attributes «attribute_count» «attribute_starts» «attribute_ends»))
+      → ProbesOpened shape (now («class_text» .entry)) (entered store «last_known_shingle» «reference_count» location «index_starts» «index_ends» labels «label_attributes» «label_count» «label_starts» «label_ends» attributes «attribute_count» «attribute_starts» «attribute_ends») (pointProbes (r .probes) (left store «last_known_shingle» «reference_count» location «index_starts» «index_ends» labels «label_attributes» «label_count» «label_starts» «label_ends» attributes «attribute_count» «attribute_starts» «attribute_ends»))
 
 -- the sets taken by a product, their answers, and the product that they left
 pub data ProbesRan (start : PointProbes ℕ) : List (ProbeSet ℕ) → List Answer → PointProbes ℕ → Type 0 where

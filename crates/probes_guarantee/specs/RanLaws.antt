@@ -19,8 +19,8 @@ use Rattle.probes_guarantee.specs.Guarantee.{ProbesGuarantee}
 use Rattle.probes_guarantee.specs.Theorem.{probes-guaranteed}
 use Rattle.probes_guarantee.specs.Ran.{ProbesOpened, opens, ProbesRan, none-yet, sets, sets-words, no-set}
 
-pub opened-is : {s : Shape} {m : Memory ℕ} {start : PointProbes ℕ} → ProbesOpened s m start → probesOpenCall 0 s m ≡ probesOutcome done start
-opened-is (opens s a b c d e f g h i j k l m n o r ensures accepted) =
+pub opened-is : {s : Shape} {text : List ℕ} {m : Memory ℕ} {start : PointProbes ℕ} → ProbesOpened s text m start → probesOpenCall 0 s text m ≡ probesOutcome done start
+opened-is (opens s a b c d e f g h i j k l m n o t r ensures accepted) =
     sym ensures ∙ ap (λ (z : Done). probesOutcome (doneMeans z) (pointProbes (r .probes) (left a b c d e f g h i j k l m n o))) accepted
 
 -- what a run answers
@@ -59,6 +59,6 @@ ran (no-set p a b c d e f g h i j k l m n o kinds words label r before ensures n
     }
 
 -- and so the guarantee is one of the program
-pub probes-program-guaranteed : {s : Shape} {m : Memory ℕ} {start : PointProbes ℕ} {before : List (ProbeSet ℕ)} {answers : List Answer} {q : PointProbes ℕ}
-    → ProbesOpened s m start → ProbesRan start before answers q → IsProbesRun start before answers q × ProbesGuarantee wordsEqual 0 s start before
-probes-program-guaranteed {s} {m} {start} {before} o x = (ran x, probes-guaranteed wordsEqual 0 s start m (opened-is o) before)
+pub probes-program-guaranteed : {s : Shape} {text : List ℕ} {m : Memory ℕ} {start : PointProbes ℕ} {before : List (ProbeSet ℕ)} {answers : List Answer} {q : PointProbes ℕ}
+    → ProbesOpened s text m start → ProbesRan start before answers q → IsProbesRun start before answers q × ProbesGuarantee wordsEqual 0 s start before
+probes-program-guaranteed {s} {text} {m} {start} {before} o x = (ran x, probes-guaranteed wordsEqual 0 s start text m (opened-is o) before)

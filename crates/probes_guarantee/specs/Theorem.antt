@@ -56,11 +56,11 @@ each-at f (suc (suc (suc (suc (suc (suc zero)))))) h = refl
 each-at f (suc (suc (suc (suc (suc (suc (suc zero))))))) h = refl
 each-at f (suc (suc (suc (suc (suc (suc (suc (suc k)))))))) h = absurd (omega arith)
 
-module _ {E : Type 0} (eq : E → E → Bool) (zeroElement : E) (s : Shape) (start : PointProbes E) (m : Memory E) (accepted : probesOpenCall zeroElement s m ≡ probesOutcome done start) where
+module _ {E : Type 0} (eq : E → E → Bool) (zeroElement : E) (s : Shape) (start : PointProbes E) (text : List ℕ) (m : Memory E) (accepted : probesOpenCall zeroElement s text m ≡ probesOutcome done start) where
   -- what an accepted opening of a product is: one of its store, with nothing tallied and a window of zeros
   record Fresh : Type 0 where
     well : ProbesSound start
-    of-store : openCall zeroElement s m ≡ outcome done (storeOf start)
+    of-store : openCall zeroElement s text m ≡ outcome done (storeOf start)
     none-yet : start .header .store .«next_sequence_index» ≡ 0
     zeros : lastFloats (storeOf start) ≡ replicate 8 zeroElement
     nothing : (k : ℕ) → getD (start .header .tallies) k 0 ≡ 0
@@ -68,12 +68,12 @@ module _ {E : Type 0} (eq : E → E → Bool) (zeroElement : E) (s : Shape) (sta
   fresh : Fresh
   unfolding openSpec lastFloats openedMemory
   fresh =
-      let d = probes-open-done s m zeroElement start accepted in
+      let d = probes-open-done s text m zeroElement start accepted in
       let same = sym (d .1) in
-      let o = probes-open-accepted s m (d .0) in
-      let b = opened-begun zeroElement s m in
-      let w = fresh-sound zeroElement s m (d .0) in
-      let p = opened zeroElement s m in
+      let o = probes-open-accepted s text m (d .0) in
+      let b = opened-begun zeroElement s text m in
+      let w = fresh-sound zeroElement s text m (d .0) in
+      let p = opened zeroElement s text m in
       let wide = eight-wide p (sound p (w .well)) (w .base-eight) in
       let dims = p .header .dimensions in
       let few : dims ≡ dims - 8 + 8 = omega (arith, wide) in
@@ -252,7 +252,7 @@ module _ {E : Type 0} (eq : E → E → Bool) (zeroElement : E) (s : Shape) (sta
       record {
         answers = answers sets;
         run = f .run;
-        of-store = guaranteed eq zeroElement s (storeOf start) m (fresh .of-store) (calls sets);
+        of-store = guaranteed eq zeroElement s (storeOf start) text m (fresh .of-store) (calls sets);
         windows = f .points-same;
         tallies = λ out sized. rw (probes-sound-make (p sets) (f .probes-well), eq-eqb (length out) 8 sized) (ap (λ (ts : List ℕ). output done ts) (tallies-are sets));
         last-floats = f .last;

@@ -40,7 +40,8 @@ pub fn no_probes() -> Probes
     }
 }
 
-// A refused opening of the store gives its record of zeros, and that of the product is the same with tallies of 0.
+// A refused opening of the store gives its record of zeros, and that of the product is the same with tallies of 0. `class_text` is the
+// table of reason classes as text.
 pub fn open_probes(
     shape: Shape,
     store: &mut [FloatBits],
@@ -58,8 +59,9 @@ pub fn open_probes(
     attribute_count: &mut [u32],
     attribute_starts: &mut [u16],
     attribute_ends: &mut [u16],
+    class_text: &[u8],
 ) -> ProbesDoneResult
-    ensures { λ r. ⌜ probesOutcome (doneMeans (r .answer)) (pointProbes (r .probes) (left store «last_known_shingle» «reference_count» location «index_starts» «index_ends» labels «label_attributes» «label_count» «label_starts» «label_ends» attributes «attribute_count» «attribute_starts» «attribute_ends»)) ≡ probesOpenSpec 0 shape (entered store «last_known_shingle» «reference_count» location «index_starts» «index_ends» labels «label_attributes» «label_count» «label_starts» «label_ends» attributes «attribute_count» «attribute_starts» «attribute_ends») ⌝ }
+    ensures { λ r. ⌜ probesOutcome (doneMeans (r .answer)) (pointProbes (r .probes) (left store «last_known_shingle» «reference_count» location «index_starts» «index_ends» labels «label_attributes» «label_count» «label_starts» «label_ends» attributes «attribute_count» «attribute_starts» «attribute_ends»)) ≡ probesOpenSpec 0 shape (now («class_text» .entry)) (entered store «last_known_shingle» «reference_count» location «index_starts» «index_ends» labels «label_attributes» «label_count» «label_starts» «label_ends» attributes «attribute_count» «attribute_starts» «attribute_ends») ⌝ }
 {
     if !for_eight_probes(
         shape.dimensions,
@@ -89,6 +91,7 @@ pub fn open_probes(
         attribute_count,
         attribute_starts,
         attribute_ends,
+        class_text,
     );
     let store = opened.store;
     let answer = opened.answer;

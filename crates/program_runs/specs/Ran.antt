@@ -1,6 +1,6 @@
 -- What a program does that opens a store and hands each call the record and the memory as the last one left them. Each constructor
 -- is one call of the code: its premise is the equation that the call's contract ensures, in the contract's own words, of the
--- result and of the fifteen lent slices when the call began and when it ended. Calls stand with the last one first.
+-- result and of the lent slices when the call began and when it ended. Calls stand with the last one first.
 use Prim.Native.Nat.{ℕ}
 use mathlib.Core.List.{List, [], _∷_}
 use mathlib.Core.Path.{_≡_}
@@ -30,13 +30,13 @@ use Rattle.guarantee.specs.Run.{Call, add, inc, dec, adjust, compact}
 abbrev pub SliceOf : Type 0 → Type 0
 SliceOf X = Both (RefT (List X)) (RefT (List X))
 
--- an opening that was accepted: of a shape over this memory, with the store that it gave
-pub data Opened : Shape → Memory ℕ → PointStore ℕ → Type 0 where
+-- an opening that was accepted: of a shape with a text of classes over this memory, with the store that it gave
+pub data Opened : Shape → (text : List ℕ) → Memory ℕ → PointStore ℕ → Type 0 where
   -- store_rows::open
-  opens : (shape : Shape) (store «last_known_shingle» «reference_count» location «index_starts» «index_ends» labels «label_attributes» «label_count» «label_starts» «label_ends» attributes «attribute_count» «attribute_starts» «attribute_ends» : Slice) (r : DoneResult)
-      → outcome (doneMeans (r .answer)) (pointStore (r .store) (left store «last_known_shingle» «reference_count» location «index_starts» «index_ends» labels «label_attributes» «label_count» «label_starts» «label_ends» attributes «attribute_count» «attribute_starts» «attribute_ends»)) ≡ openSpec 0 shape (entered store «last_known_shingle» «reference_count» location «index_starts» «index_ends» labels «label_attributes» «label_count» «label_starts» «label_ends» attributes «attribute_count» «attribute_starts» «attribute_ends»)
+  opens : (shape : Shape) (store «last_known_shingle» «reference_count» location «index_starts» «index_ends» labels «label_attributes» «label_count» «label_starts» «label_ends» attributes «attribute_count» «attribute_starts» «attribute_ends» «class_text» : Slice) (r : DoneResult)
+      → outcome (doneMeans (r .answer)) (pointStore (r .store) (left store «last_known_shingle» «reference_count» location «index_starts» «index_ends» labels «label_attributes» «label_count» «label_starts» «label_ends» attributes «attribute_count» «attribute_starts» «attribute_ends»)) ≡ openSpec 0 shape (now («class_text» .entry)) (entered store «last_known_shingle» «reference_count» location «index_starts» «index_ends» labels «label_attributes» «label_count» «label_starts» «label_ends» attributes «attribute_count» «attribute_starts» «attribute_ends»)
       → r .answer ≡ atDone.Done
-      → Opened shape (entered store «last_known_shingle» «reference_count» location «index_starts» «index_ends» labels «label_attributes» «label_count» «label_starts» «label_ends» attributes «attribute_count» «attribute_starts» «attribute_ends») (pointStore (r .store) (left store «last_known_shingle» «reference_count» location «index_starts» «index_ends» labels «label_attributes» «label_count» «label_starts» «label_ends» attributes «attribute_count» «attribute_starts» «attribute_ends»))
+      → Opened shape (now («class_text» .entry)) (entered store «last_known_shingle» «reference_count» location «index_starts» «index_ends» labels «label_attributes» «label_count» «label_starts» «label_ends» attributes «attribute_count» «attribute_starts» «attribute_ends») (pointStore (r .store) (left store «last_known_shingle» «reference_count» location «index_starts» «index_ends» labels «label_attributes» «label_count» «label_starts» «label_ends» attributes «attribute_count» «attribute_starts» «attribute_ends»))
 
 -- the calls made on a store, their answers, and the store that they left
 pub data Ran (start : PointStore ℕ) : List (Call ℕ) → List Answer → PointStore ℕ → Type 0 where

@@ -17,8 +17,8 @@ use Rattle.guarantee.specs.Guarantee.{Guarantee}
 use Rattle.guarantee.specs.Theorem.{guaranteed}
 use Rattle.program_runs.specs.Ran.{Opened, opens, Ran, none-yet, adds, incs, decs, adjusts-plain, adjusts, compacts}
 
-pub opened-is : {h : Shape} {m : Memory ℕ} {start : PointStore ℕ} → Opened h m start → openSpec 0 h m ≡ outcome done start
-opened-is (opens h a b c d e f g h′ i j k l m n o r ensures accepted) =
+pub opened-is : {h : Shape} {text : List ℕ} {m : Memory ℕ} {start : PointStore ℕ} → Opened h text m start → openSpec 0 h text m ≡ outcome done start
+opened-is (opens h a b c d e f g h′ i j k l m n o text r ensures accepted) =
     sym ensures ∙ ap (λ (x : Done). outcome (doneMeans x) (pointStore (r .store) (left a b c d e f g h′ i j k l m n o))) accepted
 
 -- what a run answers
@@ -52,6 +52,6 @@ ran (adjusts s a b c d e f g h i j k l m n o pairs r before ensures) = call (adj
 ran (compacts s a b c d e f g h i j k l m n o r before ensures) = call compact ensures (ran before)
 
 -- and so the list guarantee is one of the program: its store and its answers are those of the run that the guarantee speaks of
-pub program-guaranteed : {h : Shape} {m : Memory ℕ} {start : PointStore ℕ} {calls : List (Call ℕ)} {answers : List Answer} {q : PointStore ℕ}
-    → Opened h m start → Ran start calls answers q → IsRun start calls answers q × Guarantee wordsEqual 0 h start calls
-program-guaranteed {h} {m} {start} {calls} o x = (ran x, guaranteed wordsEqual 0 h start m (opened-is o) calls)
+pub program-guaranteed : {h : Shape} {text : List ℕ} {m : Memory ℕ} {start : PointStore ℕ} {calls : List (Call ℕ)} {answers : List Answer} {q : PointStore ℕ}
+    → Opened h text m start → Ran start calls answers q → IsRun start calls answers q × Guarantee wordsEqual 0 h start calls
+program-guaranteed {h} {text} {m} {start} {calls} o x = (ran x, guaranteed wordsEqual 0 h start text m (opened-is o) calls)

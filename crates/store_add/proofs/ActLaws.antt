@@ -32,7 +32,6 @@ use Rattle.store_definitions.specs.Answers.{kept, waiting, refused, Outcome, ou
 use Rattle.store_definitions.specs.Decisions.{andThen, refuseIf, formDecided}
 use Rattle.store_definitions.specs.Rows.{roomMade}
 use Rattle.store_definitions.specs.Adding.{pointLength, waits, tableFull, entriesFilled, AddDecided, keep, wait, refuseAdd, thenAdd, addDecided, windowAfter, sequenced, rowOf, labelGiven, labelled, tableGrown, placed, joins, overflows, laidRows, laidHow, keptAfter, indexGiven as givenIndex, keeps, addCarriedOut, addSpec}
-use Rattle.store_definitions.specs.WellFormed.{classTable}
 use Rattle.store_definitions.specs.WellFormed.{wellFormed}
 use Rattle.store_laws.specs.BoundsLaws.{InBounds, base-some}
 use Rattle.store_laws.specs.Sound.{Sound, sound}
@@ -123,7 +122,7 @@ module _ (p : PointStore ℕ) (point : List ℕ) (code : ℕ) where
   pub label-ready : Keeps → s .«store_labels» ≡ true → Labelled s (labelHalf p) code
   label-ready k on =
       record {
-        well = labels-sound-make classTable (s .capacity) (labelHalf p) (k .sound-store .labels on);
+        well = labels-sound-make (s .classes) (s .capacity) (labelHalf p) (k .sound-store .labels on);
         coded = k .on .accepted .coded on;
         some = k .on .label-free on;
       }
@@ -193,7 +192,7 @@ labelled-is : (p : PointStore ℕ) (code : ℕ) → labelled p code ≡ withLabe
 unfolding labelled labelFor
 labelled-is p code = split (p .header .«store_labels») refl
   where
-    split : (b : Bool) → p .header .«store_labels» ≡ b → cond b (withLabels (labelTaken classTable (p .header .capacity) (labelHalf p) code .after) p) p ≡ withLabels (cond b (labelTaken classTable (p .header .capacity) (labelHalf p) code) (record { label = none; after = labelHalf p }) .after) p
+    split : (b : Bool) → p .header .«store_labels» ≡ b → cond b (withLabels (labelTaken (p .header .classes) (p .header .capacity) (labelHalf p) code .after) p) p ≡ withLabels (cond b (labelTaken (p .header .classes) (p .header .capacity) (labelHalf p) code) (record { label = none; after = labelHalf p }) .after) p
     split true e = refl
     split false e = refl
 
@@ -201,7 +200,7 @@ given-is : (p : PointStore ℕ) (code : ℕ) → labelGiven p ≡ labelFor (p .h
 unfolding labelGiven labelFor labelTaken
 given-is p code = split (p .header .«store_labels»)
   where
-    split : (b : Bool) → cond b (nextIndex (labelHalf p .labelTable)) none ≡ cond b (labelTaken classTable (p .header .capacity) (labelHalf p) code) (record { label = none; after = labelHalf p }) .label
+    split : (b : Bool) → cond b (nextIndex (labelHalf p .labelTable)) none ≡ cond b (labelTaken (p .header .classes) (p .header .capacity) (labelHalf p) code) (record { label = none; after = labelHalf p }) .label
     split true = refl
     split false = refl
 
@@ -245,6 +244,7 @@ assembled p r l i window elements laid free =
         «index_manager» = i .table .manager;
         «label_manager» = l .after .labelTable .manager;
         «attribute_manager» = l .after .attributeTable .manager;
+        classes = s .classes;
       };
       memory = record {
         store = elements;

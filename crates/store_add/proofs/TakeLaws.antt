@@ -19,15 +19,14 @@ use Rattle.labels.specs.Decisions.{none}
 use Rattle.labels.specs.Labels.{Labels, LabelTaken, labelTaken}
 use Rattle.store_definitions.specs.declared.Store.{Store}
 use Rattle.store_definitions.specs.Adding.{entriesFilled}
-use Rattle.store_definitions.specs.WellFormed.{classTable}
 use Rattle.store_add.specs.Pieces.{labelFor, grownTable, grownPlaces, IndexGiven, indexGiven, indexPlaced, indexFor}
 use Rattle.store_add.specs.Requires.{Growable, Takeable, IndexReady}
 use Rattle.store_add.proofs.RoomLaws.{fill-is}
 
 module _ (s : Store) (l : Labels) (code : ℕ) where
-  pub label-on : (classes : List ℕ) (x : LabelTaken) → s .«store_labels» ≡ true → classes ≡ classTable → x ≡ labelTaken classes (s .capacity) l code → x ≡ labelFor s l code
+  pub label-on : (x : LabelTaken) → s .«store_labels» ≡ true → x ≡ labelTaken (s .classes) (s .capacity) l code → x ≡ labelFor s l code
   unfolding labelFor
-  label-on classes x on e h = rw on (h ∙ ap (λ (cs : List ℕ). labelTaken cs (s .capacity) l code) e)
+  label-on x on h = rw on h
 
   pub label-off : s .«store_labels» ≡ false → record { label = none; after = l } ≡ labelFor s l code
   unfolding labelFor

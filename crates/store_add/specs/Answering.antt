@@ -29,6 +29,7 @@ countedStore s =
       «index_manager» = s .«index_manager»;
       «label_manager» = s .«label_manager»;
       «attribute_manager» = s .«attribute_manager»;
+      classes = s .classes;
     }
 
 abbrev pub fullAdd : Store → Extent → AddResult
@@ -47,6 +48,7 @@ fullAdd s e =
         «index_manager» = s .«index_manager»;
         «label_manager» = s .«label_manager»;
         «attribute_manager» = s .«attribute_manager»;
+        classes = s .classes;
       };
       answer = Refused FloatSpaceFull;
     }
@@ -67,6 +69,7 @@ keptAdd s e r l i =
         «index_manager» = i .manager;
         «label_manager» = l .managers .«label_manager»;
         «attribute_manager» = l .managers .«attribute_manager»;
+        classes = s .classes;
       };
       answer = Kept (record { index = record { 0 = i .index }; label = l .label; laid = r .laid });
     }

@@ -14,7 +14,6 @@ use Rattle.labels.specs.Labels.{Labels, LabelTaken, labelTaken}
 use Rattle.store_definitions.specs.declared.Store.{Store}
 use Rattle.store_definitions.specs.Parts.{baseOf, Rows}
 use Rattle.store_definitions.specs.Adding.{entriesFilled}
-use Rattle.store_definitions.specs.WellFormed.{classTable}
 
 abbrev pub rowsAt : (free storeLength : ℕ) → List ℕ → List ℕ → Rows ℕ
 rowsAt free storeLength elements location =
@@ -40,7 +39,7 @@ managersOf s = record { «label_manager» = s .«label_manager»; «attribute_ma
 
 unfoldable pub labelFor : Store → Labels → ℕ → LabelTaken
 labelFor s l code =
-    cond (s .«store_labels») (labelTaken classTable (s .capacity) l code) (record { label = none; after = l })
+    cond (s .«store_labels») (labelTaken (s .classes) (s .capacity) l code) (record { label = none; after = l })
 
 -- the point table, grown where no index is free
 unfoldable pub grownTable : ℕ → Counted → Counted

@@ -10,7 +10,6 @@ use Rattle.labels.specs.Labels.{Labels, labelsWell}
 use Rattle.store_definitions.specs.declared.Store.{Store}
 use Rattle.store_definitions.specs.Parts.{tableLength}
 use Rattle.store_definitions.specs.Adding.{pointLength}
-use Rattle.store_definitions.specs.WellFormed.{classTable}
 use Rattle.store_laws.specs.BoundsLaws.{InBounds}
 use Rattle.store_laws.specs.RowsLaws.{RowsOf}
 use Rattle.store_add.specs.Pieces.{rowsIn, grownTable}
@@ -29,7 +28,7 @@ pub record Rowed (s : Store) (window point : List ℕ) : Type 0 where
 
 -- a label can be taken, with labels on
 pub record Labelled (s : Store) (l : Labels) (code : ℕ) : Type 0 where
-  pub well : labelsWell classTable (s .capacity) l ≡ true
+  pub well : labelsWell (s .classes) (s .capacity) l ≡ true
   pub coded : code ≤ 23
   pub some : 0 < s .«label_manager» .last_in_use
 

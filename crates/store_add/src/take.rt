@@ -9,7 +9,6 @@ ghost use Rattle.store_add.specs.Requires.{Labelled, Growable, Takeable,
 use interval_store_manager::IntervalStoreManager;
 use labels::LabelManagers;
 use labels::TakenLabel;
-use labels::reason_classes;
 use labels::take_label;
 use placement_rows::grow_table;
 use placement_rows::grown_length;
@@ -47,9 +46,8 @@ pub fn label_for(
         attribute_manager,
     };
     if s.store_labels {
-        let classes = reason_classes();
         return take_label(
-            &classes,
+            &s.classes,
             s.capacity,
             managers,
             labels,

@@ -10,6 +10,7 @@ use borrow.Author.Tests.{le-leb, leb-true}
 use Rattle.terms.specs.Below.{both, and-make}
 use Rattle.interval_store_manager.specs.Sound.{sound as managerSound}
 use Rattle.interval_store_manager.specs.WellFormed as manager
+use Rattle.class_table.specs.Table.{tableAllowed}
 use Rattle.labels.specs.Counted.{managed, freeUncounted, countsFit}
 use Rattle.labels.specs.CountedLaws.{counts-fit-make}
 use Rattle.labels.specs.Labels.{labelsOk}
@@ -20,7 +21,7 @@ use Rattle.store_definitions.specs.declared.Store.{Store}
 use Rattle.store_definitions.specs.Memory.{Memory, PointStore, pointStore}
 use Rattle.store_definitions.specs.Parts.{baseOf, tableLength, pointTable, labelHalf}
 use Rattle.store_definitions.specs.Bounds.{boundsHold, rotationAllowed, labelsLent, lentEnough}
-use Rattle.store_definitions.specs.WellFormed.{classTable, tableLengthWell, storeLengthWell, freeStartWell, emptyUncounted, placesDistinct, placesEnd, sequenceWell, wellFormed}
+use Rattle.store_definitions.specs.WellFormed.{tableLengthWell, storeLengthWell, freeStartWell, emptyUncounted, placesDistinct, placesEnd, sequenceWell, wellFormed}
 use Rattle.store_check.specs.PointsTest.{pointsTest, PointsReady}
 
 -- the memory with its elements known by their number alone
@@ -60,10 +61,10 @@ recordTest s floats window counts places starts ends =
     && (leb c places
     && (leb c starts
     && (leb c ends
-    && (leb (tableLength s) c && (leb (s .«store_length») (c * s .dimensions) && (sequenceWell s && freeStartWell s))))))))))
+    && (leb (tableLength s) c && (leb (s .«store_length») (c * s .dimensions) && (sequenceWell s && (tableAllowed (s .classes) && freeStartWell s)))))))))))
 
-labels-lent : {E : Type 0} (b : Bool) (p : PointStore E) → labelsOk b classTable (p .header .capacity) (labelHalf p) ≡ true → cond b (labelsLent (p .header .capacity) (p .memory)) true ≡ true
-labels-lent true p e = labels-lent-make (p .header .capacity) p (sound classTable (p .header .capacity) (labelHalf p) e)
+labels-lent : {E : Type 0} (b : Bool) (p : PointStore E) → labelsOk b (p .header .classes) (p .header .capacity) (labelHalf p) ≡ true → cond b (labelsLent (p .header .capacity) (p .memory)) true ≡ true
+labels-lent true p e = labels-lent-make (p .header .capacity) p (sound (p .header .classes) (p .header .capacity) (labelHalf p) e)
 labels-lent false p e = refl
 
 -- two tests that imply each other
@@ -87,7 +88,7 @@ module _ {E : Type 0} (q : PointStore E) (fit : countsFit (tableLength (q .heade
   asked =
       recordTest s (length (m .store)) (length (m .lastKnownShingle)) (length (m .referenceCount)) (length (m .location)) (length (m .indexStarts)) (length (m .indexEnds))
       && (pointsTest s (m .referenceCount) (m .location) (m .indexStarts) (m .indexEnds)
-      && labelsOk (s .«store_labels») classTable (s .capacity) (labelHalf q))
+      && labelsOk (s .«store_labels») (s .classes) (s .capacity) (labelHalf q))
 
   passes : wellFormed q ≡ true → asked ≡ true
   unfolding wellFormed lentEnough tableLengthWell storeLengthWell recordTest pointsTest
@@ -104,7 +105,8 @@ module _ {E : Type 0} (q : PointStore E) (fit : countsFit (tableLength (q .heade
       let p10 = both (placesEnd n s (m .location)) _ (p9 .1) in
       let p11 = both (managed n (pointTable q)) _ (p10 .1) in
       let p12 = both (sequenceWell s) _ (p11 .1) in
-      let p13 = both (countsFit n (m .referenceCount)) _ (p12 .1) in
+      let p13 = both (tableAllowed (s .classes)) _ (p12 .1) in
+      let p14 = both (countsFit n (m .referenceCount)) _ (p13 .1) in
       let l1 = both (leb (s .capacity * s .dimensions) (length (m .store))) _ (p3 .0) in
       let l2 = both (leb (s .dimensions) (length (m .lastKnownShingle))) _ (l1 .1) in
       let l3 = both (leb (s .capacity) (length (m .referenceCount))) _ (l2 .1) in
@@ -120,16 +122,16 @@ module _ {E : Type 0} (q : PointStore E) (fit : countsFit (tableLength (q .heade
       (and-make _ _ (l4 .0)
       (and-make _ _ (l5 .0)
       (and-make _ _ (l6 .0)
-      (and-make _ _ (both (leb 1 n) (leb n (s .capacity)) (p4 .0) .1) (and-make _ _ (p5 .0) (and-make _ _ (p12 .0) (p6 .0))))))))))))
+      (and-make _ _ (both (leb 1 n) (leb n (s .capacity)) (p4 .0) .1) (and-make _ _ (p5 .0) (and-make _ _ (p12 .0) (and-make _ _ (p13 .0) (p6 .0)))))))))))))
       (and-make _ _
       (and-make _ _ (p11 .0) (and-make _ _ (p7 .0) (and-make _ _ (p8 .0) (and-make _ _ (p9 .0) (p10 .0)))))
-      (p13 .1))
+      (p14 .1))
 
   passed : asked ≡ true → wellFormed q ≡ true
   unfolding wellFormed lentEnough tableLengthWell storeLengthWell recordTest pointsTest managed
   passed e =
       let first = both (recordTest s (length (m .store)) (length (m .lastKnownShingle)) (length (m .referenceCount)) (length (m .location)) (length (m .indexStarts)) (length (m .indexEnds))) _ e in
-      let second = both (pointsTest s (m .referenceCount) (m .location) (m .indexStarts) (m .indexEnds)) (labelsOk (s .«store_labels») classTable (s .capacity) (labelHalf q)) (first .1) in
+      let second = both (pointsTest s (m .referenceCount) (m .location) (m .indexStarts) (m .indexEnds)) (labelsOk (s .«store_labels») (s .classes) (s .capacity) (labelHalf q)) (first .1) in
       let a1 = both (boundsHold (s .dimensions) (s .«shingle_size») (s .capacity)) _ (first .0) in
       let a2 = both (rotationAllowed (s .«internal_rotation»)) _ (a1 .1) in
       let a3 = both (leb (s .capacity * s .dimensions) (length (m .store))) _ (a2 .1) in
@@ -140,7 +142,8 @@ module _ {E : Type 0} (q : PointStore E) (fit : countsFit (tableLength (q .heade
       let a8 = both (leb (s .capacity) (length (m .indexEnds))) _ (a7 .1) in
       let a9 = both (leb n (s .capacity)) _ (a8 .1) in
       let a10 = both (leb (s .«store_length») (s .capacity * s .dimensions)) _ (a9 .1) in
-      let a11 = both (sequenceWell s) (freeStartWell s) (a10 .1) in
+      let a11 = both (sequenceWell s) _ (a10 .1) in
+      let a12 = both (tableAllowed (s .classes)) (freeStartWell s) (a11 .1) in
       let b1 = both (managed n (pointTable q)) _ (second .0) in
       let b2 = both (freeUncounted n (pointTable q)) _ (b1 .1) in
       let b3 = both (emptyUncounted n (m .referenceCount) (m .location)) _ (b2 .1) in
@@ -156,10 +159,10 @@ module _ {E : Type 0} (q : PointStore E) (fit : countsFit (tableLength (q .heade
       (and-make _ _ (a7 .0) (and-make _ _ (a8 .0) (labels-lent (s .«store_labels») q (second .1))))))))
       (and-make _ _ (and-make _ _ (le-leb 1 n (kept .least)) (a9 .0))
       (and-make _ _ (a10 .0)
-      (and-make _ _ (a11 .1)
+      (and-make _ _ (a12 .1)
       (and-make _ _ (b2 .0)
       (and-make _ _ (b3 .0)
-      (and-make _ _ (b4 .0) (and-make _ _ (b4 .1) (and-make _ _ (b1 .0) (and-make _ _ (a11 .0) (and-make _ _ fit (second .1)))))))))))))
+      (and-make _ _ (b4 .0) (and-make _ _ (b4 .1) (and-make _ _ (b1 .0) (and-make _ _ (a11 .0) (and-make _ _ (a12 .0) (and-make _ _ fit (second .1))))))))))))))
 
   pub check-is : wellFormed q ≡ asked
   check-is = same-test (wellFormed q) asked passes passed
@@ -180,7 +183,7 @@ record-ready s floats window starts ends counts location e =
     let a₈ = both (leb c ends) _ (a₇ .1) in
     let a₉ = both (leb (tableLength s) c) _ (a₈ .1) in
     let last = both (leb (s .«store_length») (c * s .dimensions)) _ (a₉ .1) in
-    let inside = both (eqb free 0 || leb (s .dimensions) free) (leb free (s .«store_length»)) (both (eqb (free % baseOf s) 0) _ (both (sequenceWell s) (freeStartWell s) (last .1) .1) .1) .1 in
+    let inside = both (eqb free 0 || leb (s .dimensions) free) (leb free (s .«store_length»)) (both (eqb (free % baseOf s) 0) _ (both (tableAllowed (s .classes)) (freeStartWell s) (both (sequenceWell s) _ (last .1) .1) .1) .1) .1 in
     record {
       bounds = a₁ .0;
       free-most = omega (arith, in-bounds (s .dimensions) (s .«shingle_size») c (a₁ .0) .floats-most, leb-true (s .«store_length») (c * s .dimensions) (last .0), leb-true free (s .«store_length») inside);
@@ -201,7 +204,7 @@ module _ {E : Type 0} (q : PointStore E) (floats window : ℕ) (f : length (q .m
   second = pointsTest (q .header) (held .referenceCount) (held .location) (held .indexStarts) (held .indexEnds)
 
   abbrev third : Bool
-  third = labelsOk (q .header .«store_labels») classTable (q .header .capacity) (labelHalf q)
+  third = labelsOk (q .header .«store_labels») (q .header .classes) (q .header .capacity) (labelHalf q)
 
   parts : wellFormed q ≡ (first && (second && third))
   parts =

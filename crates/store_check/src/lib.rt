@@ -17,7 +17,6 @@ pub use bounds::bounds_hold;
 pub use bounds::free_start_well;
 use label_check::labels_well_formed;
 use labels::LabelManagers;
-use labels::reason_classes;
 pub use points::places_distinct;
 pub use record::Lengths;
 pub use record::record_well;
@@ -63,7 +62,6 @@ pub fn check(
         let points = points_well(s, reference_count, location, index_starts, index_ends);
         let well = points.ok;
         if well {
-            let classes = reason_classes();
             let label_manager = s.label_manager;
             let attribute_manager = s.attribute_manager;
             let managers = LabelManagers {
@@ -72,7 +70,7 @@ pub fn check(
             };
             let ok = labels_well_formed(
                 s.store_labels,
-                &classes,
+                &s.classes,
                 s.capacity,
                 managers,
                 labels,

@@ -1,8 +1,9 @@
-// The record's own clauses, and whether enough memory is lent.
+// The record's own clauses, its table of classes among them, and whether enough memory is lent.
 ghost use mathlib.Core.Path.{_≡_};
 ghost use Rattle.store_check.specs.CheckLaws.{recordTest};
 use crate::bounds::bounds_hold;
 use crate::bounds::free_start_well;
+use class_table::table_allowed;
 use store_definitions::Store;
 
 // Every `u32` is at most this; the clause stands with the others, and the compiler leaves it out.
@@ -50,7 +51,9 @@ pub fn record_well(s: Store, lent: Lengths) -> bool
             return false;
         }
         let started = free_start_well(s);
-        return (s.next_sequence_index <= LAST_SEQUENCE) & started;
+        let classes = s.classes;
+        let table = table_allowed(classes);
+        return (s.next_sequence_index <= LAST_SEQUENCE) & (table & started);
     }
     false
 }

@@ -22,7 +22,7 @@ use Rattle.store_definitions.specs.Answers.{done, refused, outcome}
 use Rattle.store_definitions.specs.Parts.{tableLength, pointTable, labelHalf, withPoints, withLabels}
 use Rattle.store_definitions.specs.Decisions.{refuseIf, touchDecided}
 use Rattle.store_definitions.specs.Counting.{incTest, decTest, incremented, placeAfterDec, decremented, incSpec, decSpec}
-use Rattle.store_definitions.specs.WellFormed.{classTable, wellFormed}
+use Rattle.store_definitions.specs.WellFormed.{wellFormed}
 use Rattle.store_laws.specs.Sound.{sound}
 use Rattle.store_laws.specs.DecisionLaws.{both-go, not-refused, touch-go, inc-label-go, dec-label-go}
 use Rattle.store_counts.specs.Tables.{countsAlone, emptied}
@@ -68,12 +68,12 @@ module _ {E : Type 0} (p : PointStore E) where
       pub inc-room : getD counts i 0 < 65536 → getD counts i 0 < 65535
       inc-room h = less (getD counts i 0) (omega arith) (eqb-false (getD counts i 0) 65535 (not-refused _ 7 (inc-parts .1 .1)))
 
-      pub inc-label-ready : p .header .«store_labels» ≡ true → (classes : List ℕ) → classes ≡ classTable → LabelReady classes (p .header .capacity) (labelHalf p) l × (getD (p .memory .labelCount) l 0 < 65535)
-      inc-label-ready on classes e =
+      pub inc-label-ready : p .header .«store_labels» ≡ true → LabelReady (p .header .classes) (p .header .capacity) (labelHalf p) l × (getD (p .memory .labelCount) l 0 < 65535)
+      inc-label-ready on =
           let w = sound p f .labels on in
           let u = inc-label-go (p .header .capacity) (p .memory .labelCount) l (rw on at (inc-parts .1 .0)) in (
             record {
-              well = rw e (labels-sound-make classTable (p .header .capacity) (labelHalf p) w);
+              well = labels-sound-make (p .header .classes) (p .header .capacity) (labelHalf p) w;
               below = u .0 .below;
               counted = u .0 .counted;
             },
@@ -91,11 +91,11 @@ module _ {E : Type 0} (p : PointStore E) where
           let u = touch-go p i (dec-parts .0) in
           (record { well = w .points; below = u .0; live = u .1 }, omega (arith, w .rows .places-lent, w .table-within, u .0))
 
-      pub dec-label-ready : p .header .«store_labels» ≡ true → (classes : List ℕ) → classes ≡ classTable → LabelReady classes (p .header .capacity) (labelHalf p) l
-      dec-label-ready on classes e =
+      pub dec-label-ready : p .header .«store_labels» ≡ true → LabelReady (p .header .classes) (p .header .capacity) (labelHalf p) l
+      dec-label-ready on =
           let u = dec-label-go (p .header .capacity) (p .memory .labelCount) l (rw on at (dec-parts .1)) in
           record {
-            well = rw e (labels-sound-make classTable (p .header .capacity) (labelHalf p) (sound p f .labels on));
+            well = labels-sound-make (p .header .classes) (p .header .capacity) (labelHalf p) (sound p f .labels on);
             below = u .below;
             counted = u .counted;
           }

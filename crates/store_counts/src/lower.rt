@@ -18,7 +18,6 @@ use interval_store_manager::Decision;
 use interval_store_manager::IntervalStoreManager;
 use labels::LabelManagers;
 use labels::dec_label;
-use labels::reason_classes;
 use store_check::check;
 use store_definitions::Done;
 use store_definitions::DoneResult;
@@ -85,7 +84,6 @@ pub fn dec_accepted(
         index,
     );
     if s.store_labels {
-        let classes = reason_classes();
         let label_manager = s.label_manager;
         let attribute_manager = s.attribute_manager;
         let managers = LabelManagers {
@@ -93,7 +91,7 @@ pub fn dec_accepted(
             attribute_manager,
         };
         let lowered = dec_label(
-            &classes,
+            &s.classes,
             s.capacity,
             managers,
             labels,

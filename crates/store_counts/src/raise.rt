@@ -13,7 +13,6 @@ use crate::decide::inc_test;
 use interval_store_manager::Decision;
 use labels::LabelManagers;
 use labels::inc_label;
-use labels::reason_classes;
 use store_check::check;
 use store_definitions::Done;
 use store_definitions::DoneResult;
@@ -49,7 +48,6 @@ pub fn inc_accepted(
     let i = index.0;
     reference_count[i] += 1;
     if s.store_labels {
-        let classes = reason_classes();
         let label_manager = s.label_manager;
         let attribute_manager = s.attribute_manager;
         let managers = LabelManagers {
@@ -57,7 +55,7 @@ pub fn inc_accepted(
             attribute_manager,
         };
         inc_label(
-            &classes,
+            &s.classes,
             s.capacity,
             managers,
             labels,

@@ -19,7 +19,6 @@ use Rattle.store_definitions.specs.Answers.{kept, waiting, refused, Outc
 use Rattle.store_definitions.specs.Parts.{baseOf, extraOf, tableLength, pointTable, labelHalf, Rows, rowsOf, withRows, withPoints, withLabels, withWindow}
 use Rattle.store_definitions.specs.Decisions.{andThen, refuseIf, formDecided}
 use Rattle.store_definitions.specs.Rows.{roomMade}
-use Rattle.store_definitions.specs.WellFormed.{classTable}
 
 -- 'Length is base with internal shingling, else dimensions.'
 unfoldable pub pointLength : Store → ℕ
@@ -83,7 +82,7 @@ module _ {E : Type 0} where
   unfoldable pub labelled : PointStore E → ℕ → PointStore E
   labelled p code =
       cond (p .header .«store_labels»)
-      (withLabels (labelTaken classTable (p .header .capacity) (labelHalf p) code .after) p)
+      (withLabels (labelTaken (p .header .classes) (p .header .capacity) (labelHalf p) code .after) p)
       p
 
   -- 'If the index manager is empty, table length n becomes n + n / 5 (whole division), at most capacity', and 'the table gains at

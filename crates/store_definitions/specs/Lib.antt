@@ -14,3 +14,4 @@ pub mod IndexLists
 pub mod LabelReadings
 pub mod Lent
 pub mod WorkedWindows
+pub mod LoadedClasses

@@ -4,6 +4,7 @@ use mathlib.Core.Bool.{Bool, false, cond, _&&_}
 use mathlib.Core.List.{List, _++_}
 use lib.ListN.{drop, replicate, set}
 use Rattle.interval_store_manager.specs.Calls.{Decided, go, refuse, manager}
+use Rattle.class_table.specs.Text.{tableRead}
 use Rattle.labels.specs.Opening.{labelsOpened}
 use Rattle.store_definitions.specs.declared.Store.{Store}
 use Rattle.store_definitions.specs.declared.Shape.{Shape}
@@ -18,16 +19,19 @@ abbrev pub shapeAllowed : Shape → Bool
 shapeAllowed h =
     boundsHold (h .dimensions) (h .«shingle_size») (h .capacity) && startAllowed (h .«initial_capacity») (h .capacity)
 
--- 'Opening checks 2, 1.'
-unfoldable pub openDecided : {E : Type 0} → Shape → Memory E → Decided
-openDecided h m =
+-- 'Opening checks 2, 1.' Document 02, Point 6: 'Any other text gets 17 after the lent-slice check and opens nothing.'
+abbrev pub openJudged : {E : Type 0} → Shape → (table : Bool) → Memory E → Decided
+openJudged h table m =
     cond (shapeAllowed h)
-    (cond (lentEnough (h .dimensions) (h .capacity) (h .«store_labels») m) go (refuse 1))
+    (cond (lentEnough (h .dimensions) (h .capacity) (h .«store_labels») m) (cond table go (refuse 17)) (refuse 1))
     (refuse 2)
 
+unfoldable pub openDecided : {E : Type 0} → Shape → (text : List ℕ) → Memory E → Decided
+openDecided h text m = openJudged h (tableRead text .ok) m
+
 -- 'Store length starts at starting capacity × dimensions ..; sequence, free start .. 0'; all indices are free
-abbrev pub freshRecord : Shape → Store
-freshRecord h =
+abbrev pub freshWith : Shape → (classes : List ℕ) → Store
+freshWith h classes =
     record {
       dimensions = h .dimensions;
       «shingle_size» = h .«shingle_size»;
@@ -41,7 +45,12 @@ freshRecord h =
       «index_manager» = manager (h .«initial_capacity») 1;
       «label_manager» = manager (h .capacity) 1;
       «attribute_manager» = manager (h .capacity) 1;
+      classes = classes;
     }
+
+-- the table of classes is the one that the text holds
+abbrev pub freshRecord : Shape → List ℕ → Store
+freshRecord h text = freshWith h (tableRead text .classes)
 
 -- the record of zeros, where there is no store: it is ill-formed
 abbrev pub noRecord : Store
@@ -59,6 +68,7 @@ noRecord =
       «index_manager» = manager 0 0;
       «label_manager» = manager 0 0;
       «attribute_manager» = manager 0 0;
+      classes = replicate 24 0;
     }
 
 -- the first n entries made x; a longer slice keeps its rest
@@ -87,12 +97,12 @@ module _ {E : Type 0} (zeroElement : E) where
         attributeEnds = m .attributeEnds;
       }
 
-  unfoldable pub opened : Shape → Memory E → PointStore E
-  opened h m =
-      let p : PointStore E = record { header = freshRecord h; memory = openedMemory h m } in
+  unfoldable pub opened : Shape → List ℕ → Memory E → PointStore E
+  opened h text m =
+      let p : PointStore E = record { header = freshRecord h text; memory = openedMemory h m } in
       cond (h .«store_labels») (withLabels (labelsOpened (h .capacity) (labelHalf p)) p) p
 
 module _ {E : Type 0} (zeroElement : E) where
   -- a refused opening gives the record of zeros, and the memory as it was
-  unfoldable pub openSpec : Shape → Memory E → Outcome E
-  openSpec h m = carriedOut (openDecided h m) (pointStore noRecord m) (outcome done (opened zeroElement h m))
+  unfoldable pub openSpec : Shape → (text : List ℕ) → Memory E → Outcome E
+  openSpec h text m = carriedOut (openDecided h text m) (pointStore noRecord m) (outcome done (opened zeroElement h text m))

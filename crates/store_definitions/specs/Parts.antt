@@ -68,6 +68,7 @@ module _ {E : Type 0} where
           «index_manager» = s .«index_manager»;
           «label_manager» = s .«label_manager»;
           «attribute_manager» = s .«attribute_manager»;
+          classes = s .classes;
         };
         memory = record {
           store = r .elements;
@@ -107,6 +108,7 @@ module _ {E : Type 0} where
           «index_manager» = t .manager;
           «label_manager» = s .«label_manager»;
           «attribute_manager» = s .«attribute_manager»;
+          classes = s .classes;
         };
         memory = record {
           store = m .store;
@@ -146,6 +148,7 @@ module _ {E : Type 0} where
           «index_manager» = s .«index_manager»;
           «label_manager» = l .labelTable .manager;
           «attribute_manager» = l .attributeTable .manager;
+          classes = s .classes;
         };
         memory = record {
           store = m .store;
@@ -185,6 +188,7 @@ module _ {E : Type 0} where
           «index_manager» = s .«index_manager»;
           «label_manager» = s .«label_manager»;
           «attribute_manager» = s .«attribute_manager»;
+          classes = s .classes;
         };
         memory = record {
           store = m .store;

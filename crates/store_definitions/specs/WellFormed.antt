@@ -6,17 +6,13 @@ use mathlib.Core.List.{List}
 use lib.ListN.{getD}
 use lib.Dec.{leb, eqb}
 use Rattle.terms.specs.Below.{everyBelow}
-use Rattle.labels.specs.Classes.{reasonClasses}
+use Rattle.class_table.specs.Table.{tableAllowed}
 use Rattle.labels.specs.Counted.{managed, freeUncounted, countsFit}
 use Rattle.labels.specs.Labels.{labelsOk}
 use Rattle.store_definitions.specs.declared.Store.{Store}
 use Rattle.store_definitions.specs.Memory.{PointStore}
 use Rattle.store_definitions.specs.Parts.{baseOf, tableLength, pointTable, labelHalf}
 use Rattle.store_definitions.specs.Bounds.{boundsHold, rotationAllowed, lentEnough}
-
--- the table of classes; document 02 replaces the constant by a loaded one behind this name
-abbrev pub classTable : List ℕ
-classTable = reasonClasses
 
 -- 'table length is 1 to capacity'
 unfoldable pub tableLengthWell : Store → Bool
@@ -59,6 +55,7 @@ module _ {E : Type 0} where
   -- `freeUncounted`: 'an index is in exactly one free interval exactly when its count is 0'; that no two intervals share one is the
   -- manager's own clause. `managed`: 'Each manager is well-formed, the point manager's capacity being the table length'.
   -- `countsFit`: 'Counts of points .. are at most 65,535'. `labelsOk`: the other two managers, the labels and the slots.
+  -- `tableAllowed`, of document 02, Point 6: 'a store whose table breaks these rules is ill-formed', with labels off too.
   unfoldable pub wellFormed : PointStore E → Bool
   wellFormed p =
       let s = p .header in
@@ -77,4 +74,5 @@ module _ {E : Type 0} where
       && (placesEnd n s location
       && (managed n (pointTable p)
       && (sequenceWell s
-      && (countsFit n counts && labelsOk (s .«store_labels») classTable (s .capacity) (labelHalf p)))))))))))))
+      && (tableAllowed (s .classes)
+      && (countsFit n counts && labelsOk (s .«store_labels») (s .classes) (s .capacity) (labelHalf p))))))))))))))

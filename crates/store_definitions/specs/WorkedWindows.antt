@@ -12,6 +12,11 @@ use Rattle.placement.specs.declared.Laid.the-variants.{Whole, Joined}
 use Rattle.terms.specs.Below.{one, everyBelow, sumBelow, countBelow}
 use Rattle.terms.specs.Rows.{allEqual}
 use Rattle.float_bits.specs.Words.{wordOf, wordsEqual}
+use Rattle.decimal.specs.Field.{column, columns, field, digit, valueFrom}
+use Rattle.decimal.specs.Lines.{fields, line, lines}
+use Rattle.class_table.specs.Reasons.{reasonClasses}
+use Rattle.class_table.specs.Table.{someBelow, largestBelow, tableAllowed}
+use Rattle.class_table.specs.Text.{numbered, tableText, classesOf, tableRead}
 use Rattle.interval_store_manager.specs.Calls.{pushed, changed, taken, released}
 use Rattle.interval_store_manager.specs.Intervals.{inside, holders, isFree, inBounds, noneShared}
 use Rattle.interval_store_manager.specs.WellFormed.{capacityAllowed, lentEnough as stackLent, wellFormed as managerWellFormed}
@@ -118,7 +123,7 @@ record Case : Type 0 where
   said : Said
 
 ran : Case → Said
-ran c = run (c .copiedIndex) (c .calls) (openSpec 0 (c .opening) (rubbish (c .opening))) []
+ran c = run (c .copiedIndex) (c .calls) (openSpec 0 (c .opening) (tableText reasonClasses) (rubbish (c .opening))) []
 
 -- a copy that is given
 copies : List ℕ → Output ℕ
@@ -251,5 +256,5 @@ hold (c ∷ cs) = agree (ran c) (c .said) && hold cs
 
 -- every case gives what is said of it
 worked-windows : hold cases ≡ true
-unfolding shape rubbish floats called run ran copies cases numbers same alike agree hold ofInt toBits wordsEqual everyBelow sumBelow countBelow allEqual pushed changed taken released inside holders isFree inBounds noneShared capacityAllowed stackLent managerWellFormed wrappingSub wrappingAdd alignment zerosBefore holds liveBelow moved grownBlocks blocks blockMoves copiedDown settled blockDown blocksDown writtenByBlocks compacted turn turned copied grown writtenCount laidAs laidElements laidFree placeOf overlaps rowToLay movedWindow managed freeUncounted countsFit indexTaken lowered codeDecided roomDecided decDecided openDecided openedMemory opened openSpec decTest placeAfterDec decremented decSpec compactedRows grownRows short roomMade compactSpec copyOf copyDecided copyWritten copySpec liveNumber liveNumberSpec freeStartSpec pointLength waits tableFull addDecided windowAfter sequenced rowOf labelGiven labelled entriesFilled tableGrown placed joins overflows laidRows laidHow keptAfter indexGiven keeps addSpec boundsHold startAllowed rotationAllowed lentEnough formDecided live touchDecided tableLengthWell storeLengthWell freeStartWell emptyUncounted placesDistinct placesEnd sequenceWell wellFormed
+unfolding shape rubbish floats called run ran copies cases numbers same alike agree hold ofInt toBits wordsEqual tableRead tableText numbered classesOf lines line fields field columns column valueFrom digit reasonClasses tableAllowed someBelow largestBelow everyBelow sumBelow countBelow allEqual pushed changed taken released inside holders isFree inBounds noneShared capacityAllowed stackLent managerWellFormed wrappingSub wrappingAdd alignment zerosBefore holds liveBelow moved grownBlocks blocks blockMoves copiedDown settled blockDown blocksDown writtenByBlocks compacted turn turned copied grown writtenCount laidAs laidElements laidFree placeOf overlaps rowToLay movedWindow managed freeUncounted countsFit indexTaken lowered codeDecided roomDecided decDecided openDecided openedMemory opened openSpec decTest placeAfterDec decremented decSpec compactedRows grownRows short roomMade compactSpec copyOf copyDecided copyWritten copySpec liveNumber liveNumberSpec freeStartSpec pointLength waits tableFull addDecided windowAfter sequenced rowOf labelGiven labelled entriesFilled tableGrown placed joins overflows laidRows laidHow keptAfter indexGiven keeps addSpec boundsHold startAllowed rotationAllowed lentEnough formDecided live touchDecided tableLengthWell storeLengthWell freeStartWell emptyUncounted placesDistinct placesEnd sequenceWell wellFormed
 worked-windows = refl

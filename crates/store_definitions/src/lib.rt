@@ -22,6 +22,8 @@ pub struct Store {
     pub index_manager: IntervalStoreManager,
     pub label_manager: IntervalStoreManager,
     pub attribute_manager: IntervalStoreManager,
+    // The class of each reason code, as it was loaded on opening.
+    pub classes: [u8; 24],
 }
 
 // What opening takes besides the memory.

@@ -24,7 +24,7 @@ use Rattle.store_definitions.specs.Answers.{kept, refused, outcome}
 use Rattle.store_definitions.specs.Parts.{baseOf, tableLength, pointTable, labelHalf, Rows, rowsOf, withRows, withPoints, withLabels}
 use Rattle.store_definitions.specs.Rows.{roomMade}
 use Rattle.store_definitions.specs.Adding.{pointLength, tableFull, entriesFilled, AddDecided, keep, wait, refuseAdd, addDecided, sequenced, rowOf, labelGiven, labelled, tableGrown, placed, overflows, laidRows, laidHow, keptAfter, indexGiven, keeps, addCarriedOut, addSpec}
-use Rattle.store_definitions.specs.WellFormed.{classTable, wellFormed}
+use Rattle.store_definitions.specs.WellFormed.{wellFormed}
 use Rattle.store_laws.specs.Sound.{RowsSound, Sound, sound, sound-make}
 use Rattle.store_laws.specs.RowsLaws.{RowsOf, with-rows, room-sound, room-empty}
 use Rattle.store_laws.specs.Cases.{by-cases}
@@ -139,11 +139,11 @@ module _ {E : Type 0} (eq : E → E → Bool) (zeroElement : E) (p : PointStore 
     pub kept-sound : Sound (keptAfter eq (roomMade zeroElement (p .header) (rowsOf p)) (rowOf p point) p point code)
     unfolding keptAfter labelled
     kept-sound =
-        let l : Labels = labelTaken classTable (h .capacity) (labelHalf p) code .after in
+        let l : Labels = labelTaken (h .classes) (h .capacity) (labelHalf p) code .after in
         by-cases (λ q. Sound (placed (tableGrown (withRows (laidRows eq h r row) (sequenced q point))) place)) (h .«store_labels») (withLabels l p) p
         (λ on.
         table-well l
-        (with-labels p w l (label-keeps classTable (h .capacity) (labelHalf p) (w .labels on) code (k .accepted .coded on) (k .label-free on))))
+        (with-labels p w l (label-keeps (h .classes) (h .capacity) (labelHalf p) (w .labels on) code (k .accepted .coded on) (k .label-free on))))
         (λ off. table-well (labelHalf p) w)
 
 module _ {E : Type 0} (eq : E → E → Bool) (zeroElement : E) (p : PointStore E) (point : List E) (code : ℕ) where

@@ -21,7 +21,7 @@ use Rattle.store_definitions.specs.Answers.{done, Outcome, outcome}
 use Rattle.store_definitions.specs.Parts.{tableLength, pointTable, labelHalf, withPoints, withLabels}
 use Rattle.store_definitions.specs.Decisions.{andThen, formDecided, touchDecided}
 use Rattle.store_definitions.specs.Counting.{Pairing, incTest, decTest, incremented, placeAfterDec, decremented, incSpec, decSpec, pairDecided, pairDone, unlessRefused, adjustFrom, adjustSpec}
-use Rattle.store_definitions.specs.WellFormed.{classTable, wellFormed}
+use Rattle.store_definitions.specs.WellFormed.{wellFormed}
 use Rattle.store_laws.specs.Sound.{Sound, sound, sound-make}
 use Rattle.store_laws.specs.Cases.{either, by-cases}
 use Rattle.store_laws.specs.Lengths.{raised-lengths, lowered-lengths}
@@ -61,7 +61,7 @@ module _ {E : Type 0} where
         (λ on.
         with-labels (withPoints (raised (pointTable p) i) location p) (raised-sound g) (labelRaised (labelHalf p) l)
         (let v = f on in
-        label-inc-keeps classTable (p .header .capacity) (labelHalf p) (w .labels on) l (v .0 .below) (v .0 .counted)
+        label-inc-keeps (p .header .classes) (p .header .capacity) (labelHalf p) (w .labels on) l (v .0 .below) (v .0 .counted)
         (less (getD (p .memory .labelCount) l 0) (w .labels on .count-most l (v .0 .below)) (v .1))))
         (λ off. raised-sound g)
       where
@@ -117,7 +117,7 @@ module _ {E : Type 0} where
         by-cases Sound (p .header .«store_labels») (withLabels (labelLowered (labelHalf p) l) lower) lower
         (λ on.
         with-labels lower lowered-sound (labelLowered (labelHalf p) l)
-        (label-dec-keeps classTable (p .header .capacity) (labelHalf p) (w .labels on) l (f on .below) (f on .counted)))
+        (label-dec-keeps (p .header .classes) (p .header .capacity) (labelHalf p) (w .labels on) l (f on .below) (f on .counted)))
         (λ off. lowered-sound)
 
   -- what an accepted inc and an accepted dec leave

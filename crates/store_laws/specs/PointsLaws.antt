@@ -13,7 +13,6 @@ use Rattle.labels.specs.Labels.{Labels}
 use Rattle.labels.specs.Sound.{Sound as LabelsSound}
 use Rattle.store_definitions.specs.Memory.{PointStore}
 use Rattle.store_definitions.specs.Parts.{baseOf, Rows, rowsOf, pointTable, withPoints, withLabels, withWindow}
-use Rattle.store_definitions.specs.WellFormed.{classTable}
 use Rattle.store_laws.specs.PlacesLaws.{live-below, live-placed, live-make}
 use Rattle.store_laws.specs.Sound.{RowsSound, Sound}
 use Rattle.store_laws.specs.Lengths.{SameLengths}
@@ -73,11 +72,12 @@ module _ {E : Type 0} (p : PointStore E) (w : Sound p) where
         points = subst (λ k. WellCounted k t) (sym (c .whole)) c;
         empty-is = rw (c .whole) e;
         sequence-most = w .sequence-most;
+        classes-allowed = w .classes-allowed;
         counts-most = rw (c .whole) f;
         labels = w .labels;
       }
 
-  pub with-labels : (l : Labels) → LabelsSound classTable (p .header .capacity) l → Sound (withLabels l p)
+  pub with-labels : (l : Labels) → LabelsSound (p .header .classes) (p .header .capacity) l → Sound (withLabels l p)
   with-labels l s =
       record {
         bounds = w .bounds;
@@ -88,6 +88,7 @@ module _ {E : Type 0} (p : PointStore E) (w : Sound p) where
         points = w .points;
         empty-is = w .empty-is;
         sequence-most = w .sequence-most;
+        classes-allowed = w .classes-allowed;
         counts-most = w .counts-most;
         labels = λ on. s;
       }
@@ -103,6 +104,7 @@ module _ {E : Type 0} (p : PointStore E) (w : Sound p) where
         points = w .points;
         empty-is = w .empty-is;
         sequence-most = k;
+        classes-allowed = w .classes-allowed;
         counts-most = w .counts-most;
         labels = w .labels;
       }

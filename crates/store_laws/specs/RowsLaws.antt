@@ -44,6 +44,7 @@ with-rows p r w g e =
       points = w .points;
       empty-is = λ i h. w .empty-is i h ∙ e i h;
       sequence-most = w .sequence-most;
+      classes-allowed = w .classes-allowed;
       counts-most = w .counts-most;
       labels = w .labels;
     }

@@ -4,6 +4,7 @@ use native.Mathlib.Nat.{le-trans, dvd-of-mod-eq-zero, mod-eq-zero-of-dvd}
 use native.Mathlib.Decide.{ℕ-discrete}
 use native.Mathlib.Omega.{arith}
 use mathlib.Core.Bool.{Bool, true, _||_, Bool·beq, or-true}
+use mathlib.Core.List.{List}
 use mathlib.Core.Logic.{_⊎_, inl, inr}
 use mathlib.Core.Path.{_≡_, sym, _∙_}
 use lib.ListN.{length, getD, take}
@@ -13,7 +14,9 @@ use borrow.Author.Tests.{eq-eqb, ne-eqb, eqb-true, eqb-false, le-leb, leb-true}
 use Rattle.terms.specs.Below.{both, and-make, every-at, every-make}
 use Rattle.interval_store_manager.specs.Sound.{sound as managerSound}
 use Rattle.placement.specs.Places.{Live, WellPlaced, Distinct}
-use Rattle.labels.specs.Classes.{AtMostNine, reason-rule, rule-most}
+use Rattle.class_table.specs.Table.{tableAllowed}
+use Rattle.class_table.specs.TextLaws.{allowed}
+use Rattle.labels.specs.Classes.{AtMostNine}
 use Rattle.labels.specs.Counted.{Counted, countAt}
 use Rattle.labels.specs.CountedLaws.{WellCounted, well-counted, managed-make, free-make, counts-fit, counts-fit-make, beq-same, same-beq}
 use Rattle.labels.specs.Labels.{labelsWell}
@@ -22,7 +25,7 @@ use Rattle.store_definitions.specs.declared.Store.{Store}
 use Rattle.store_definitions.specs.Memory.{Memory, PointStore}
 use Rattle.store_definitions.specs.Parts.{baseOf, tableLength, Rows, rowsOf, pointTable, labelHalf}
 use Rattle.store_definitions.specs.Bounds.{rotationAllowed, labelsLent}
-use Rattle.store_definitions.specs.WellFormed.{classTable, tableLengthWell, storeLengthWell, freeStartWell, emptyUncounted, sequenceWell, wellFormed}
+use Rattle.store_definitions.specs.WellFormed.{tableLengthWell, storeLengthWell, freeStartWell, emptyUncounted, sequenceWell, wellFormed}
 use Rattle.store_laws.specs.Cases.{asked, asked-make}
 use Rattle.store_laws.specs.BoundsLaws.{InBounds, in-bounds, in-bounds-make, shaped}
 use Rattle.store_laws.specs.LentLaws.{PointsLent, LabelsLent, labels-are-lent-make, lent, lent-make}
@@ -39,9 +42,9 @@ pub record RowsSound {E : Type 0} (dims base capacity n : ℕ) (r : Rows E) : Ty
   pub well-placed : WellPlaced dims base (take n (r .location)) (r .free) (length (r .elements))
   pub distinct-places : Distinct (take n (r .location))
 
--- no class of the table is above 9
-pub class-most : AtMostNine classTable
-class-most = rule-most classTable reason-rule
+-- no class of an allowed table is above 9
+pub class-most : (classes : List ℕ) → tableAllowed classes ≡ true → AtMostNine classes
+class-most classes e code l = allowed classes e .most code (omega arith)
 
 started : (free dims : ℕ) → (eqb free 0 || leb dims free) ≡ true → (free ≡ 0) ⊎ (dims ≤ free)
 started free dims e =
@@ -72,11 +75,12 @@ module _ {E : Type 0} where
     -- count 0 exactly at an empty place
     pub empty-is : (i : ℕ) → i < tableLength (p .header) → eqb (countAt (pointTable p) i) 0 ≡ eqb (getD (p .memory .location) i 65535) 65535
     pub sequence-most : p .header .«next_sequence_index» ≤ 4294967295
+    pub classes-allowed : tableAllowed (p .header .classes) ≡ true
     pub counts-most : (i : ℕ) → i < tableLength (p .header) → countAt (pointTable p) i ≤ 65535
-    pub labels : p .header .«store_labels» ≡ true → LabelsSound classTable (p .header .capacity) (labelHalf p)
+    pub labels : p .header .«store_labels» ≡ true → LabelsSound (p .header .classes) (p .header .capacity) (labelHalf p)
 
   -- what is lent for the labels follows from the label half
-  labels-lent-of : (c : ℕ) (p : PointStore E) → LabelsSound classTable c (labelHalf p) → LabelsLent c (p .memory)
+  labels-lent-of : (c : ℕ) (p : PointStore E) → LabelsSound (p .header .classes) c (labelHalf p) → LabelsLent c (p .memory)
   labels-lent-of c p l =
       let a = stacks-lent c (labelHalf p .labelTable) (l .label-table) in
       let b = stacks-lent c (labelHalf p .attributeTable) (l .slot-table) in
@@ -92,7 +96,7 @@ module _ {E : Type 0} where
         slot-ends-lent = b .1;
       }
 
-  pub labels-lent-make : (c : ℕ) (p : PointStore E) → LabelsSound classTable c (labelHalf p) → labelsLent c (p .memory) ≡ true
+  pub labels-lent-make : (c : ℕ) (p : PointStore E) → LabelsSound (p .header .classes) c (labelHalf p) → labelsLent c (p .memory) ≡ true
   labels-lent-make c p l = labels-are-lent-make c (p .memory) (labels-lent-of c p l)
 
   module _ (p : PointStore E) where
@@ -124,6 +128,7 @@ module _ {E : Type 0} where
         let p11 = both _ _ (p10 .1) in
         let p12 = both _ _ (p11 .1) in
         let p13 = both _ _ (p12 .1) in
+        let p14 = both _ _ (p13 .1) in
         let l = lent (s .capacity) m (s .dimensions) (s .«store_labels») (p3 .0) in
         let f1 = both _ _ (p6 .0) in
         let f2 = both _ _ (f1 .1) in
@@ -159,8 +164,9 @@ module _ {E : Type 0} where
               beq-same (eqb (getD (m .referenceCount) i 0) 0) (eqb (getD (m .location) i 65535) 65535)
               (every-at n emptyAt (p8 .0) i h);
           sequence-most = leb-true (s .«next_sequence_index») 4294967295 (p12 .0);
-          counts-most = counts-fit n (m .referenceCount) (p13 .0);
-          labels = λ on. labels-sound classTable (s .capacity) (labelHalf p) (asked (s .«store_labels») (labelsWell classTable (s .capacity) (labelHalf p)) (p13 .1) on);
+          classes-allowed = p13 .0;
+          counts-most = counts-fit n (m .referenceCount) (p14 .0);
+          labels = λ on. labels-sound (s .classes) (s .capacity) (labelHalf p) (asked (s .«store_labels») (labelsWell (s .classes) (s .capacity) (labelHalf p)) (p14 .1) on);
         }
 
     pub sound-make : Sound p → wellFormed p ≡ true
@@ -188,8 +194,9 @@ module _ {E : Type 0} where
         (and-make _ _ (ends-make n (m .location) (omega (arith, r .places-lent, w .table-within)) s (r .well-placed .ends))
         (and-make _ _ (managed-make n (pointTable p) (w .points))
         (and-make _ _ (le-leb (s .«next_sequence_index») 4294967295 (w .sequence-most))
+        (and-make _ _ (w .classes-allowed)
         (and-make _ _ (counts-fit-make n (m .referenceCount) (w .counts-most))
-        (asked-make (s .«store_labels») (labelsWell classTable (s .capacity) (labelHalf p)) (λ on. labels-sound-make classTable (s .capacity) (labelHalf p) (w .labels on)))))))))))))))
+        (asked-make (s .«store_labels») (labelsWell (s .classes) (s .capacity) (labelHalf p)) (λ on. labels-sound-make (s .classes) (s .capacity) (labelHalf p) (w .labels on))))))))))))))))
 
     -- an index with a count has a point, which ends at most at the free start; so its place is not the empty one
     module _ (w : Sound p) (i : ℕ) (h : i < n) (u : 0 < getD (m .referenceCount) i 0) where

@@ -8,10 +8,11 @@ ghost use Rattle.store_definitions.specs.Answers.{doneMeans, outcome};
 ghost use Rattle.store_definitions.specs.Bounds.{boundsHold, lentEnough};
 ghost use Rattle.store_definitions.specs.Lent.{entered, left};
 ghost use Rattle.store_definitions.specs.Memory.{pointStore};
-ghost use Rattle.store_definitions.specs.Opening.{freshRecord, noRecord, openDecided, openSpec};
+ghost use Rattle.store_definitions.specs.Opening.{freshWith, noRecord, openJudged, openSpec};
 ghost use Rattle.store_rows.specs.Openings.{labelManagers, labelsLentIf};
 use crate::clearing::open_labels;
 use crate::clearing::open_points;
+use class_table::read_classes;
 use interval_store_manager::Decision;
 use interval_store_manager::IntervalStoreManager;
 use store_check::bounds_hold;
@@ -95,8 +96,10 @@ fn enough_lent(
                         & ((capacity <= index_ends.len()) & of_labels)))))
 }
 
+// 17 comes last: whether the text holds a table is known before, and asked after all else.
 fn opening_decision(
     shape: Shape,
+    table: bool,
     store: &[FloatBits],
     last_known_shingle: &[FloatBits],
     reference_count: &[u16],
@@ -113,7 +116,7 @@ fn opening_decision(
     attribute_starts: &[u16],
     attribute_ends: &[u16],
 ) -> Decision
-    ensures { λ r. ⌜ decisionMeans r ≡ openDecided shape (entered store «last_known_shingle» «reference_count» location «index_starts» «index_ends» labels «label_attributes» «label_count» «label_starts» «label_ends» attributes «attribute_count» «attribute_starts» «attribute_ends») ⌝ }
+    ensures { λ r. ⌜ decisionMeans r ≡ openJudged shape table (entered store «last_known_shingle» «reference_count» location «index_starts» «index_ends» labels «label_attributes» «label_count» «label_starts» «label_ends» attributes «attribute_count» «attribute_starts» «attribute_ends») ⌝ }
 {
     if bounds_hold(shape.dimensions, shape.shingle_size, shape.capacity) {
         if shape.initial_capacity < 1 {
@@ -140,16 +143,19 @@ fn opening_decision(
             attribute_starts,
             attribute_ends,
         ) {
-            return Decision::Go;
+            if table {
+                return Decision::Go;
+            }
+            return Decision::Refuse(Refusal::ClassText);
         }
         return Decision::Refuse(Refusal::IllFormed);
     }
     Decision::Refuse(Refusal::Shape)
 }
 
-fn fresh_record(shape: Shape) -> Store
+fn fresh_record(shape: Shape, classes: [u8; 24]) -> Store
     requires { ⌜ shape .«initial_capacity» * shape .dimensions ≤ 16384 ⌝ }
-    ensures { λ r. ⌜ r ≡ freshRecord shape ⌝ }
+    ensures { λ r. ⌜ r ≡ freshWith shape classes ⌝ }
 {
     Store {
         dimensions: shape.dimensions,
@@ -173,6 +179,7 @@ fn fresh_record(shape: Shape) -> Store
             capacity: shape.capacity,
             last_in_use: 1,
         },
+        classes,
     }
 }
 
@@ -184,6 +191,7 @@ pub fn no_record() -> Store
         capacity: 0,
         last_in_use: 0,
     };
+    let classes = [0u8; 24];
     Store {
         dimensions: 0,
         shingle_size: 0,
@@ -197,9 +205,11 @@ pub fn no_record() -> Store
         index_manager: none,
         label_manager: none,
         attribute_manager: none,
+        classes,
     }
 }
 
+// `class_text` is the table of reason classes as text.
 pub fn open(
     shape: Shape,
     store: &mut [FloatBits],
@@ -217,11 +227,14 @@ pub fn open(
     attribute_count: &mut [u32],
     attribute_starts: &mut [u16],
     attribute_ends: &mut [u16],
+    class_text: &[u8],
 ) -> DoneResult
-    ensures { λ r. ⌜ outcome (doneMeans (r .answer)) (pointStore (r .store) (left store «last_known_shingle» «reference_count» location «index_starts» «index_ends» labels «label_attributes» «label_count» «label_starts» «label_ends» attributes «attribute_count» «attribute_starts» «attribute_ends»)) ≡ openSpec 0 shape (entered store «last_known_shingle» «reference_count» location «index_starts» «index_ends» labels «label_attributes» «label_count» «label_starts» «label_ends» attributes «attribute_count» «attribute_starts» «attribute_ends») ⌝ }
+    ensures { λ r. ⌜ outcome (doneMeans (r .answer)) (pointStore (r .store) (left store «last_known_shingle» «reference_count» location «index_starts» «index_ends» labels «label_attributes» «label_count» «label_starts» «label_ends» attributes «attribute_count» «attribute_starts» «attribute_ends»)) ≡ openSpec 0 shape (now («class_text» .entry)) (entered store «last_known_shingle» «reference_count» location «index_starts» «index_ends» labels «label_attributes» «label_count» «label_starts» «label_ends» attributes «attribute_count» «attribute_starts» «attribute_ends») ⌝ }
 {
+    let read = read_classes(class_text);
     let d = opening_decision(
         shape,
+        read.ok,
         store,
         last_known_shingle,
         reference_count,
@@ -247,7 +260,8 @@ pub fn open(
             }
         }
         Decision::Go => {
-            let fresh = fresh_record(shape);
+            let classes = read.classes;
+            let fresh = fresh_record(shape, classes);
             open_points(
                 shape,
                 store,

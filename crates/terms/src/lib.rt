@@ -21,6 +21,8 @@ pub enum Refusal {
     NotReleasable,
     HoldWidth,
     NoEarlierReading,
+    ClassText,
+    TextLength,
 }
 
 // The index of a point. A tuple struct of its own, so that a label's index cannot stand in its place.
@@ -61,5 +63,7 @@ pub fn refusal_number(r: Refusal) -> u64
         Refusal::NotReleasable => 14,
         Refusal::HoldWidth => 15,
         Refusal::NoEarlierReading => 16,
+        Refusal::ClassText => 17,
+        Refusal::TextLength => 18,
     }
 }

@@ -8,6 +8,7 @@ use crate::print::row;
 use crate::print::text;
 use crate::print::word;
 use block::Block;
+use block::Ended;
 use block::add_row;
 use block::compact_block;
 use block::copy_point;
@@ -15,12 +16,21 @@ use block::count_point;
 use block::dec_point;
 use block::inc_point;
 use block::open_block;
+use block::open_with_classes;
 use store_definitions::Shape;
 use terms::NONE;
 
 // A new store, and a line that says so with its shape.
 pub fn new_store(shape: Shape) -> Block {
-    let r = open_block(shape);
+    said(shape, open_block(shape))
+}
+
+// The same with a table of classes of its own.
+pub fn new_store_with(shape: Shape, class_text: &[u8]) -> Block {
+    said(shape, open_with_classes(shape, class_text))
+}
+
+fn said(shape: Shape, r: Ended) -> Block {
     text(b"  new store: dimensions ");
     number(shape.dimensions);
     text(b", shingle size ");

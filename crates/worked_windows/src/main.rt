@@ -19,4 +19,5 @@ fn main() {
     reading_cases::joined_by_bits();
     preview_cases::previews();
     reading_cases::labels_read();
+    reading_cases::loaded_classes();
 }

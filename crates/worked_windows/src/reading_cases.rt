@@ -1,6 +1,7 @@
 // The other readings, of small stores: what is compared and added up of rows, and what is read of labels.
 use crate::cases::add_two;
 use crate::cases::new_store;
+use crate::cases::new_store_with;
 use crate::cases::opened;
 use crate::print::added;
 use crate::print::answer;
@@ -147,9 +148,8 @@ fn add_with_code(b: Block, code: usize) -> Block {
     after
 }
 
-// A store with two labels: codes 23 and 5, of the classes 9 and 2.
-fn labelled() -> Block {
-    let b = new_store(Shape {
+fn three_labelled() -> Shape {
+    Shape {
         dimensions: 2,
         shingle_size: 1,
         capacity: 3,
@@ -157,7 +157,12 @@ fn labelled() -> Block {
         internal_shingling: false,
         internal_rotation: false,
         store_labels: true,
-    });
+    }
+}
+
+// A store with two labels: codes 23 and 5, of the classes 9 and 2.
+fn labelled() -> Block {
+    let b = new_store(three_labelled());
     add_with_code(add_with_code(b, 23), 5)
 }
 
@@ -185,4 +190,21 @@ pub fn labels_read() {
     label_read(b, 0);
     label_read(b, 1);
     label_read(b, 2);
+}
+
+// Code 0 has class 2, code 1 class 1, every other code class 0.
+const FALLING: [u8; 216] =
+    *b"   0   2\n   1   1\n   2   0\n   3   0\n   4   0\n   5   0\n   6   0\n   7   0\n   8   0\n   9   0\n  10   0\n  11   0\n  12   0\n  13   0\n  14   0\n  15   0\n  16   0\n  17   0\n  18   0\n  19   0\n  20   0\n  21   0\n  22   0\n  23   0\n";
+
+// The classes are those of the loaded table, which fall; one line less is no table.
+pub fn loaded_classes() {
+    text(b"attribute by a loaded table whose classes fall\n");
+    let falling = FALLING;
+    let b = new_store_with(three_labelled(), &falling[..]);
+    let c = add_with_code(add_with_code(add_with_code(b, 0), 1), 2);
+    label_read(c, 0);
+    label_read(c, 1);
+    label_read(c, 2);
+    text(b"its text with one line less\n");
+    new_store_with(three_labelled(), &falling[9..]);
 }

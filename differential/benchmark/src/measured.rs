@@ -4,7 +4,7 @@ use crate::sides::*;
 use crate::timed::both;
 use library::store::Opening;
 use reference::pointstore::PointStore;
-use reference::reasons::Code;
+use reference::reasons::{Code, BUILT_IN};
 use std::collections::VecDeque;
 use std::hint::black_box;
 
@@ -42,7 +42,7 @@ fn steady(capacity: usize, labels: bool) -> (f64, f64) {
         },
         |(rust, live)| {
             for (k, point) in points.iter().enumerate() {
-                let (index, label, _) = rust.add(point, Code((k % 24) as u8)).expect("an add");
+                let (index, label, _) = rust.add(point, Code::of(k % 24, &BUILT_IN)).expect("an add");
                 live.push_back((index, label));
                 let (index, label) = live.pop_front().expect("a live point");
                 rust.dec(index, label).expect("a dec");
@@ -71,7 +71,7 @@ fn hold_add(capacity: usize, labels: bool) -> (f64, f64) {
         },
         |(rust, live)| {
             for (k, point) in points.iter().enumerate() {
-                let (index, label, _) = rust.add(point, Code((k % 24) as u8)).expect("an add");
+                let (index, label, _) = rust.add(point, Code::of(k % 24, &BUILT_IN)).expect("an add");
                 live.push_back((index, label));
                 let (index, label) = live.pop_front().expect("a live point");
                 rust.dec(index, label).expect("a dec");

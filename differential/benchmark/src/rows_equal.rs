@@ -25,7 +25,7 @@ fn row() -> Vec<u32> {
 
 fn stored() -> Lent {
     let mut lent = Lent {
-        words: vec![0; 15],
+        words: vec![0; 39],
         store: vec![0; DIMENSIONS],
         last_known_shingle: vec![0; DIMENSIONS],
         reference_count: vec![0],

@@ -2,7 +2,7 @@
 use library::hold::LentHold;
 use library::store::{Added, Lent, Opening};
 use reference::pointstore::PointStore;
-use reference::reasons::Code;
+use reference::reasons::{Code, BUILT_IN};
 use reference::Store;
 
 pub const DIMENSIONS: usize = 16;
@@ -26,6 +26,7 @@ pub fn opening(capacity: usize, labels: bool) -> Opening {
         internal_shingling: 1,
         internal_rotation: 0,
         store_labels: labels as usize,
+        ..Opening::default()
     }
 }
 
@@ -55,7 +56,7 @@ pub fn rust_opened(o: Opening) -> Store {
 pub fn lent(capacity: usize, labels: bool) -> Lent {
     let tables = if labels { capacity } else { 0 };
     Lent {
-        words: vec![0; 15],
+        words: vec![0; 39],
         store: vec![0; capacity * DIMENSIONS],
         last_known_shingle: vec![0; DIMENSIONS],
         reference_count: vec![0; capacity],
@@ -81,7 +82,7 @@ pub fn filled_hold(capacity: usize, labels: bool, width: usize) -> LentHold {
         held_indices: vec![0; capacity],
         held_labels: vec![0; if labels { capacity } else { 0 }],
     };
-    hold.store.words.resize(17, 0);
+    hold.store.words.resize(41, 0);
     assert_eq!(hold.open(opening(capacity, labels), width), 0, "opening");
     let mut held = 0;
     for k in 0.. {
@@ -133,7 +134,7 @@ impl Sides {
         let (point, code) = (point(self.added), self.added % 24);
         let mut a = nothing_added();
         let value = self.lent.add(&words(&point), code, &mut a);
-        let (index, label_index, _) = self.rust.add(&point, Code(code as u8)).expect("an add");
+        let (index, label_index, _) = self.rust.add(&point, Code::of(code, &BUILT_IN)).expect("an add");
         assert_eq!(value, 0, "an add");
         self.added += 1;
         if a.kept == 1 {

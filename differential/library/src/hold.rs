@@ -1,10 +1,10 @@
-//! The hold's calls over what a caller lends: its record's seventeen words, of which the first fifteen are the store's, the
+//! The hold's calls over what a caller lends: its record's 41 words, of which the first 39 are the store's, the
 //! store's fifteen slices, and two tables more.
 use crate::store::{lend, prototypes, Added, Lent, Opening};
 
 #[derive(Clone, Debug, Default, PartialEq)]
 pub struct LentHold {
-    /// Its words are the hold's: a call of the store sees the first fifteen.
+    /// Its words are the hold's: a call of the store sees the first 39.
     pub store: Lent,
     pub held_indices: Vec<u16>,
     pub held_labels: Vec<u16>,
@@ -16,6 +16,8 @@ prototypes! {
         held_indices_len: usize,
         held_labels: *mut u16,
         held_labels_len: usize,
+        class_text: *const u8,
+        class_text_len: usize,
         dimensions: usize,
         shingle_size: usize,
         capacity: usize,
@@ -77,6 +79,8 @@ impl LentHold {
         lend_hold!(
             self,
             ps_hold_open(
+                o.class_text.bytes().as_ptr(),
+                o.class_text.bytes().len(),
                 o.dimensions,
                 o.shingle_size,
                 o.capacity,

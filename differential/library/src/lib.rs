@@ -1,4 +1,5 @@
 //! The static library's calls: a slice goes over as a pointer and a length.
+pub mod classes;
 pub mod hold;
 pub mod probes;
 pub mod store;

@@ -1,9 +1,11 @@
-//! The product's calls over what a caller lends: its record's twenty-three words, of which the first fifteen are the store's, and the
-//! store's fifteen slices.
+//! The product's calls over what a caller lends: its record's 47 words, of which the first 39 are the store's, and the store's
+//! fifteen slices.
 use crate::store::{lend, prototypes, Added, Lent, Opening};
 
 prototypes! {
     ps_probes_open(
+        class_text: *const u8,
+        class_text_len: usize,
         dimensions: usize,
         shingle_size: usize,
         capacity: usize,
@@ -32,6 +34,8 @@ impl Lent {
         lend!(
             self,
             ps_probes_open(
+                o.class_text.bytes().as_ptr(),
+                o.class_text.bytes().len(),
                 o.dimensions,
                 o.shingle_size,
                 o.capacity,

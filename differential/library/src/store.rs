@@ -1,4 +1,5 @@
 //! The store's calls over what a caller lends: the record's words and fifteen slices.
+use crate::classes::ClassText;
 
 #[derive(Clone, Debug, Default, PartialEq)]
 pub struct Lent {
@@ -30,7 +31,7 @@ pub struct Added {
     pub place: u64,
 }
 
-/// The numbers that open a store.
+/// The numbers and the text that open a store.
 #[derive(Clone, Copy, Debug, Default, PartialEq)]
 pub struct Opening {
     pub dimensions: usize,
@@ -40,6 +41,7 @@ pub struct Opening {
     pub internal_shingling: usize,
     pub internal_rotation: usize,
     pub store_labels: usize,
+    pub class_text: ClassText,
 }
 
 impl Opening {
@@ -55,6 +57,7 @@ impl Opening {
             internal_shingling: flags & 1,
             internal_rotation: flags >> 1 & 1,
             store_labels: flags >> 2 & 1,
+            class_text: ClassText::default(),
         }
     }
 }
@@ -104,6 +107,8 @@ pub(crate) use prototypes;
 
 prototypes! {
     ps_open(
+        class_text: *const u8,
+        class_text_len: usize,
         dimensions: usize,
         shingle_size: usize,
         capacity: usize,
@@ -205,6 +210,8 @@ impl Lent {
         lend!(
             self,
             ps_open(
+                o.class_text.bytes().as_ptr(),
+                o.class_text.bytes().len(),
                 o.dimensions,
                 o.shingle_size,
                 o.capacity,

@@ -5,7 +5,7 @@
 use crate::chosen::{any_opening, Chooser};
 use random::Random;
 use reference::pointstore::PointStore;
-use reference::reasons::Code;
+use reference::reasons::{Code, BUILT_IN};
 use reference::Store;
 use std::panic::{catch_unwind, AssertUnwindSafe};
 
@@ -117,7 +117,7 @@ impl Recorder {
         let row: Vec<usize> = point.iter().map(|w| *w as usize).collect();
         let from = self.free_for_a_row();
         let mut next = self.rust.clone();
-        let added = catch_unwind(AssertUnwindSafe(|| next.add(&floats(point), Code(code as u8))));
+        let added = catch_unwind(AssertUnwindSafe(|| next.add(&floats(point), Code::of(code, &BUILT_IN))));
         let Ok(added) = added else {
             self.ended = true;
             return false;

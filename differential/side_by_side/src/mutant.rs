@@ -22,7 +22,7 @@ pub const OF_THE_MANAGER: [&str; 13] = [
 ];
 
 /// Sown in the store's part.
-pub const OF_THE_STORE: [&str; 39] = [
+pub const OF_THE_STORE: [&str; 43] = [
     "compaction-leaves-old-places",
     "no-zeros-before-a-block",
     "add-never-grows-the-floats",
@@ -47,6 +47,10 @@ pub const OF_THE_STORE: [&str; 39] = [
     "two-points-at-one-place",
     "a-row-past-the-free-start",
     "a-slot-of-another-class",
+    "a-gap-in-the-classes",
+    "a-leading-zero",
+    "classes-of-the-built-in-table",
+    "opening-refuses-17-before-1",
     "two-slots-of-one-class",
     "a-slot-count-that-is-no-sum",
     "harness-swaps-index-and-label",

@@ -2,6 +2,7 @@
 mod beyond;
 pub mod breaking;
 pub mod call;
+pub mod classes;
 mod differs;
 pub mod guess;
 pub mod kinds;
@@ -61,10 +62,11 @@ const RUBBISH_CALLS: u64 = 2_000_000;
 const BROKEN_EACH: u64 = 1_000;
 const REFUSED_PAIRS_STORES: u64 = 10_000;
 const SMALL_STARTS_EACH: u64 = 20;
+const RULES_EACH: u64 = 1_000;
 
 fn random_lists(seed: u64) -> Result<Coverage, String> {
-    // 1 and 2 need other memory and shapes, 7 needs 65,534 incs.
-    let refusals = kinds::refusals(|_, number| [1, 2, 7].contains(&number));
+    // 1, 2 and 17 need other memory, shapes and texts, 7 needs 65,534 incs.
+    let refusals = kinds::refusals(|_, number| [1, 2, 7, 17].contains(&number));
     let owed = [
         &lists::SHAPES[..],
         &kinds::accepted(),
@@ -128,6 +130,20 @@ fn name() -> Result<Coverage, String> {
     Ok(coverage)
 }
 
+fn class_texts() -> Result<Coverage, String> {
+    let owed = [
+        &classes::RULES[..],
+        &["a byte changed, taken", "a byte changed, refused"],
+    ];
+    let mut coverage = counts(
+        "store, texts of classes: each rule broken alone, each byte changed",
+        &owed,
+    );
+    classes::each_rule_broken(17, share(RULES_EACH).max(100), &mut coverage)?;
+    classes::each_byte_changed(18, &mut coverage)?;
+    Ok(coverage)
+}
+
 fn differences() -> Result<Coverage, String> {
     let mut coverage = Coverage::new(
         "store, each difference from the Rust at its smallest input",
@@ -138,7 +154,7 @@ fn differences() -> Result<Coverage, String> {
 }
 
 fn made_up() -> Result<Coverage, String> {
-    let refusals = kinds::refusals(|_, number| [1, 2].contains(&number));
+    let refusals = kinds::refusals(|_, number| [1, 2, 17].contains(&number));
     let owed = [
         &["stores made up"][..],
         &kinds::accepted()[1..],
@@ -168,7 +184,7 @@ fn refused_pairs() -> Result<Coverage, String> {
 }
 
 fn rubbish() -> Result<Coverage, String> {
-    let refusals = kinds::refusals(|_, number| number > 2);
+    let refusals = kinds::refusals(|_, number| number > 2 && number != 17);
     let owed = [
         &["spoiled and still well-formed", "nothing but rubbish"][..],
         &kinds::accepted(),
@@ -182,8 +198,9 @@ fn rubbish() -> Result<Coverage, String> {
 pub type Part = fn() -> Result<Coverage, String>;
 
 /// The random lists come last, in four parts under one title.
-const PARTS: [Part; 14] = [
+const PARTS: [Part; 15] = [
     name,
+    class_texts,
     differences,
     recorded,
     broken,

@@ -1,7 +1,7 @@
 //! Bytes to lend for typical shapes, beside what the Rust has allocated for the same shape once it was full and then gave up every
 //! second point, its struct included.
 use reference::pointstore::PointStore;
-use reference::reasons::Code;
+use reference::reasons::{Code, BUILT_IN};
 use reference::Store;
 use std::alloc::{GlobalAlloc, Layout, System};
 use std::mem::size_of;
@@ -32,7 +32,7 @@ const SHAPES: [(usize, usize, usize); 5] = [(4, 2, 10), (16, 4, 64), (16, 4, 256
 
 /// Floats and window, four tables of 16 bits, the record's words; with labels six tables of 16 bits, two of 8, one of 32.
 fn to_lend((dimensions, _, capacity): (usize, usize, usize), labels: bool) -> usize {
-    4 * (capacity + 1) * dimensions + 8 * capacity + 15 * 8 + if labels { 18 * capacity } else { 0 }
+    4 * (capacity + 1) * dimensions + 8 * capacity + 39 * 8 + if labels { 18 * capacity } else { 0 }
 }
 
 /// The Rust's store, full and then thinned out.
@@ -43,7 +43,7 @@ fn thinned((dimensions, shingle_size, capacity): (usize, usize, usize), labels: 
     let mut added = 0;
     while live.len() < capacity {
         let point: Vec<f32> = (0..dimensions / shingle_size).map(|i| (7 * added + i) as f32).collect();
-        let (index, label, _) = store.add(&point, Code((added % 24) as u8)).expect("an add");
+        let (index, label, _) = store.add(&point, Code::of(added % 24, &BUILT_IN)).expect("an add");
         added += 1;
         if index != usize::MAX {
             live.push((index, label));

@@ -8,6 +8,7 @@ use super::sides::HoldSides;
 use super::well_formed::{broken, is_well_formed_hold, CLAUSES, ILL_FORMED_STORE};
 use crate::coverage::Coverage;
 use crate::store::breaking::with_broken as with_broken_store;
+use crate::store::classes::any_text;
 use crate::store::guess::{any_call, any_number, any_taste};
 use crate::store::lent::{Bounds, LARGEST, MIDDLING, SMALL};
 use crate::store::memory::*;
@@ -112,7 +113,7 @@ fn maybe_short(table: &mut Vec<u16>, capacity: usize, random: &mut Random) {
     }
 }
 
-/// Any shape, any width, memory that is perhaps too short.
+/// Any shape, any width, memory that is perhaps too short, any text of classes.
 pub fn openings(seed: u64, calls: u64, coverage: &mut Coverage) -> Result<(), String> {
     let mut random = Random::new(seed);
     while coverage.count("calls") < calls {
@@ -134,6 +135,7 @@ pub fn openings(seed: u64, calls: u64, coverage: &mut Coverage) -> Result<(), St
         if random.one_in(6) {
             spoil_shape(&mut o, &mut random);
         }
+        o.class_text = any_text(&mut random);
         HoldSides::over(h).step(&HoldCall::Open(o, width), coverage)?;
     }
     Ok(())

@@ -57,7 +57,7 @@ fn broken_by(clause: &str, h: &mut LentHold, random: &mut Random) -> Option<()> 
     let list = listed(h);
     let more = 1 + random.below(3) as u16;
     match clause {
-        "fewer than seventeen words" => h.store.words.truncate(random.within(0, HOLD_WORDS - 1)),
+        "fewer words than a hold's" => h.store.words.truncate(random.within(0, HOLD_WORDS - 1)),
         "held_indices too short" => h
             .held_indices
             .truncate(random.within(held(h).min(capacity - 1), capacity - 1)),

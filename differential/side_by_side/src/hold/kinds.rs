@@ -3,11 +3,12 @@ use super::call::HoldCall;
 use super::model::GAVE_UP;
 use crate::store::kinds as of_store;
 
-pub const OF_OPENING: [&str; 4] = [
+pub const OF_OPENING: [&str; 5] = [
     "accepted hold_open",
     "refusal 2 of hold_open",
     "refusal 15 of hold_open",
     "refusal 1 of hold_open",
+    "refusal 17 of hold_open",
 ];
 
 /// 9 is not among them: fewer points are held than the capacity, so an index is free or the table grows.

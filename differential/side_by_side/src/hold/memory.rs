@@ -5,9 +5,9 @@ use library::hold::LentHold;
 use library::store::Opening;
 use random::Random;
 
-pub const HOLD_WORDS: usize = 17;
-pub const WIDTH: usize = 15;
-pub const HELD: usize = 16;
+pub const HOLD_WORDS: usize = RECORD_WORDS + 2;
+pub const WIDTH: usize = RECORD_WORDS;
+pub const HELD: usize = RECORD_WORDS + 1;
 
 pub fn width(h: &LentHold) -> usize {
     word(&h.store, WIDTH)

@@ -25,7 +25,7 @@ pub fn made(call: &HoldCall, h: &mut LentHold, met: &mut Met) -> HoldReturned {
     r
 }
 
-/// 2, 15, 1. The two tables keep what they held.
+/// 2, 15, 1, 17. The two tables keep what they held.
 fn open(h: &mut LentHold, o: Opening, width: usize, met: &mut Met) -> u64 {
     let flags = [o.internal_shingling, o.internal_rotation, o.store_labels];
     let outside = outside_the_bounds(o.dimensions as u64, o.shingle_size as u64, o.capacity as u64);

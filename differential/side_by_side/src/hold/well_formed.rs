@@ -7,7 +7,7 @@ use library::hold::LentHold;
 
 /// The hold's own clauses: each can be broken alone.
 pub const CLAUSES: [&str; 14] = [
-    "fewer than seventeen words",
+    "fewer words than a hold's",
     "held_indices too short",
     "held_labels too short",
     "width 0",
@@ -37,7 +37,7 @@ pub fn width_is_wrong(width: usize, capacity: usize) -> bool {
 pub fn broken(h: &LentHold) -> Vec<&'static str> {
     let mut b = Vec::new();
     if h.store.words.len() < HOLD_WORDS {
-        b.push("fewer than seventeen words");
+        b.push("fewer words than a hold's");
     } else if !is_well_formed(&h.store) {
         b.push(ILL_FORMED_STORE);
     } else {

@@ -159,7 +159,7 @@ fn any_product(random: &mut Random) -> Result<Lent, String> {
 
 fn with_broken(clause: &str, mut m: Lent, random: &mut Random) -> Lent {
     match clause {
-        "fewer than twenty-three words" => m.words.truncate(random.below(PROBES_WORDS)),
+        "fewer than 47 words" => m.words.truncate(random.below(PROBES_WORDS)),
         "another base" => m.words[SHINGLE_SIZE] = [1, 2, 3, 4, 6, 8, 16, 32][random.below(8)],
         "no internal shingling" => m.words[INTERNAL_SHINGLING] = 0,
         _ => {

@@ -14,7 +14,7 @@ pub const ABSENT: u8 = 2;
 
 /// The clauses of a product's well-formedness besides its store's.
 pub const CLAUSES: [&str; 4] = [
-    "fewer than twenty-three words",
+    "fewer than 47 words",
     "another base",
     "no internal shingling",
     "a tally above the sequence",
@@ -60,7 +60,7 @@ pub fn made(call: &ProbeCall, m: &mut Lent, met: &mut Met) -> ProbeReturned {
     r
 }
 
-/// 2, 1.
+/// 2, 1, 17.
 fn open(m: &mut Lent, o: Opening, met: &mut Met) -> u64 {
     let flags = [o.internal_shingling, o.internal_rotation, o.store_labels];
     let outside = outside_the_bounds(o.dimensions as u64, o.shingle_size as u64, o.capacity as u64);

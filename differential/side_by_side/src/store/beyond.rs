@@ -2,6 +2,7 @@
 //! is held to the model.
 use super::breaking::with_broken;
 use super::call::Call;
+use super::classes::any_text;
 use super::guess::{any_call, any_number, any_taste, Taste};
 use super::lent::{Bounds, LARGEST, MIDDLING, SMALL};
 use super::made_up::any_store;
@@ -155,7 +156,7 @@ fn spoil(m: &mut Lent, random: &mut Random) {
         random.below(5)
     };
     match random.below(20) {
-        0 => m.words.truncate(random.below(16)),
+        0 => m.words.truncate(random.below(RECORD_WORDS + 1)),
         1 => m.store.truncate(random.below(m.store.len() + 1)),
         2..=5 if !m.words.is_empty() => {
             let at = random.below(m.words.len());
@@ -187,7 +188,7 @@ fn all_rubbish(random: &mut Random) -> Lent {
         };
     }
     Lent {
-        words: slice!(18),
+        words: slice!(RECORD_WORDS + 3),
         store: slice!(20),
         last_known_shingle: slice!(6),
         reference_count: slice!(6),
@@ -219,6 +220,7 @@ fn any_opening(random: &mut Random) -> Opening {
         internal_shingling: flag(random),
         internal_rotation: flag(random),
         store_labels: flag(random),
+        class_text: any_text(random),
     }
 }
 

@@ -42,6 +42,7 @@ fn shape_of(shape: [usize; 4], flags: &str) -> Opening {
         internal_shingling: flags.contains('s') as usize,
         internal_rotation: flags.contains('r') as usize,
         store_labels: flags.contains('l') as usize,
+        ..Opening::default()
     }
 }
 

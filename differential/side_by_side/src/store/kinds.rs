@@ -5,7 +5,7 @@ use std::sync::OnceLock;
 
 /// Document 01's refusals: of each call in the order of `NAMES`.
 const REFUSALS: [&[u64]; 18] = [
-    &[1, 2],
+    &[1, 2, 17],
     &[1, 3, 4, 8, 9, 10, 12],
     &[1, 5, 6, 7],
     &[1, 5, 6],
@@ -75,7 +75,7 @@ fn table() -> &'static Vec<Vec<Option<&'static str>>> {
             }
         };
         (0..NAMES.len())
-            .map(|call| (0..=14).map(|number| kind(call, number)).collect())
+            .map(|call| (0..=17).map(|number| kind(call, number)).collect())
             .collect()
     })
 }
@@ -91,7 +91,7 @@ pub fn accepted() -> Vec<&'static str> {
 
 /// All refusals but those that `left_out` names, as (call, number).
 pub fn refusals(left_out: impl Fn(usize, u64) -> bool) -> Vec<&'static str> {
-    let each = (0..NAMES.len()).flat_map(|call| (1..=14).map(move |number| (call, number)));
+    let each = (0..NAMES.len()).flat_map(|call| (1..=17).map(move |number| (call, number)));
     each.filter(|(call, number)| !left_out(*call, *number))
         .filter_map(|(call, number)| answer_kind(call, number))
         .collect()

@@ -1,5 +1,8 @@
 //! Memory for a store: slices at least as long as a shape asks for, full of rubbish.
+use super::classes::any_table;
+use super::memory::RECORD_WORDS;
 use crate::mutant;
+use library::classes::ClassText;
 use library::store::{Lent, Opening};
 use random::Random;
 
@@ -46,6 +49,7 @@ pub fn any_opening(bounds: Bounds, random: &mut Random) -> Opening {
         internal_shingling: random.below(2),
         internal_rotation: random.below(2) * !mutant::is("harness-never-rotates") as usize,
         store_labels: random.below(2),
+        class_text: ClassText::of(&any_table(random)),
     }
 }
 
@@ -65,7 +69,7 @@ pub fn rubbish_for(o: Opening, more: usize, random: &mut Random) -> Lent {
         };
     }
     Lent {
-        words: rubbish!(15, u64),
+        words: rubbish!(RECORD_WORDS, u64),
         store: rubbish!(o.capacity * o.dimensions, u32),
         last_known_shingle: rubbish!(o.dimensions, u32),
         reference_count: rubbish!(o.capacity, u16),

@@ -25,6 +25,7 @@ pub fn counts_to_the_limit(store_labels: usize, coverage: &mut Coverage) -> Resu
         internal_shingling: 0,
         internal_rotation: 0,
         store_labels,
+        ..Opening::default()
     };
     let memory = rubbish_for(opening, 2, &mut Random::new(9));
     let mut sides = Sides::opened(memory, opening, coverage)?;

@@ -1,11 +1,13 @@
 //! Random lists of calls beside the Rust, from an opening on.
 use super::call::Call;
+use super::classes::any_table;
 use super::guess::{any_call, any_taste, Mood};
 use super::lent::{any_opening, rubbish_for, Bounds, LARGEST, MIDDLING, SMALL};
 use super::memory::*;
 use super::sides::Sides;
 use crate::coverage::Coverage;
 use crate::mutant;
+use library::classes::ClassText;
 use library::store::{Lent, Opening};
 use random::Random;
 
@@ -133,6 +135,7 @@ fn same_memory(mut o: Opening, random: &mut Random) -> Opening {
     o.internal_rotation = random.below(2) * !mutant::is("harness-never-rotates") as usize;
     o.internal_shingling = random.below(2);
     o.initial_capacity = random.within(1, o.capacity);
+    o.class_text = ClassText::of(&any_table(random));
     o
 }
 

@@ -1,10 +1,10 @@
 //! Well-formed stores that need not come from any list of calls: places, counts, stacks and labels chosen at random.
+use super::classes::table_of;
 use super::guess::any_float;
 use super::lent::{any_opening, rubbish_for, Bounds};
 use super::memory::*;
 use library::store::{Lent, Opening};
 use random::Random;
-use reference::reasons::CLASSES;
 
 pub fn shuffle<T>(list: &mut [T], random: &mut Random) {
     for k in (1..list.len()).rev() {
@@ -98,8 +98,13 @@ fn fill_labels(m: &mut Lent, capacity: usize, random: &mut Random) {
     for label in chosen(live, capacity, random) {
         let code = random.below(24);
         // Ten classes and fewer slots: those classes alone that have one.
-        let class = CLASSES[code] as usize;
-        let (code, class) = if class < slots.len() { (code, class) } else { (0, 0) };
+        let class = word(m, CLASSES + code);
+        let of_zero = (0..24).find(|k| m.words[CLASSES + k] == 0).unwrap_or(0);
+        let (code, class) = if class < slots.len() {
+            (code, class)
+        } else {
+            (of_zero, 0)
+        };
         m.labels[label] = code as u8;
         m.label_attributes[label] = slots[class] as u16;
         m.label_count[label] = any_count(random);
@@ -121,6 +126,8 @@ pub fn any_store(bounds: Bounds, random: &mut Random) -> Lent {
     m.words[INTERNAL_SHINGLING] = o.internal_shingling as u64;
     m.words[INTERNAL_ROTATION] = o.internal_rotation as u64;
     m.words[STORE_LABELS] = o.store_labels as u64;
+    let table = table_of(o.class_text.bytes()).expect("a text that opening takes");
+    m.words[CLASSES..RECORD_WORDS].copy_from_slice(&table);
     m.words[SEQUENCE] = match random.below(6) {
         0 => LARGEST_SEQUENCE,
         1 => LARGEST_SEQUENCE - 1 - random.below(4) as u64,

@@ -1,7 +1,7 @@
 //! The record's words by name, and the three stacks of free intervals.
 use library::store::Lent;
 
-pub const RECORD_WORDS: usize = 15;
+pub const RECORD_WORDS: usize = 39;
 
 pub const DIMENSIONS: usize = 0;
 pub const SHINGLE_SIZE: usize = 1;
@@ -16,6 +16,8 @@ pub const SEQUENCE: usize = 8;
 pub const TABLE_LENGTH: usize = 9;
 pub const LABEL_CAPACITY: usize = 11;
 pub const SLOT_CAPACITY: usize = 13;
+/// From here on one word a class.
+pub const CLASSES: usize = 15;
 
 pub const LARGEST_SEQUENCE: u64 = 4_294_967_295;
 pub const LARGEST_COUNT: u16 = 65_535;
@@ -32,6 +34,7 @@ pub struct Shape {
     pub shingling: bool,
     pub rotation: bool,
     pub labels: bool,
+    pub classes: [u8; 24],
 }
 
 /// The shape that a record holds; its shingle size is not 0.
@@ -47,6 +50,7 @@ pub fn shape(m: &Lent) -> Shape {
         shingling: m.words[INTERNAL_SHINGLING] == 1,
         rotation: m.words[INTERNAL_ROTATION] == 1,
         labels: m.words[STORE_LABELS] == 1,
+        classes: std::array::from_fn(|code| m.words[CLASSES + code] as u8),
     }
 }
 

@@ -1,5 +1,6 @@
 //! Document 01's store, written plainly from its text. It shares nothing with the library.
 use super::call::{Call, Returned};
+use super::classes::table_of;
 use super::memory::*;
 use super::well_formed::{is_well_formed, outside_the_bounds, too_short};
 use super::{model_readings, model_rows};
@@ -44,9 +45,17 @@ fn open(m: &mut Lent, o: Opening) -> u64 {
         return 2;
     }
     let labels = o.store_labels == 1;
+    let table = table_of(o.class_text.bytes());
+    if table.is_none() && mutant::is("opening-refuses-17-before-1") {
+        return 17;
+    }
     if m.words.len() < RECORD_WORDS || !too_short(m, o.dimensions, o.capacity, labels).is_empty() {
         return 1;
     }
+    let Some(table) = table else {
+        return 17;
+    };
+    m.words[CLASSES..RECORD_WORDS].copy_from_slice(&table);
     let length = o.initial_capacity * o.dimensions;
     m.words[DIMENSIONS] = o.dimensions as u64;
     m.words[SHINGLE_SIZE] = o.shingle_size as u64;

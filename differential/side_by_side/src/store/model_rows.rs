@@ -4,7 +4,7 @@ use super::memory::*;
 use super::model::Met;
 use crate::mutant;
 use library::store::Lent;
-use reference::reasons::CLASSES;
+use reference::reasons::BUILT_IN;
 
 /// Equality of the 32 bits. The fault is the float `==` that document 02 takes away.
 pub fn rows_equal(a: &[u32], b: &[u32], fault: &'static str) -> bool {
@@ -136,7 +136,11 @@ fn overlaps(m: &Lent, row: &[u32]) -> bool {
 
 /// An attribute slot, then a label index, each with one count more.
 fn take_label(m: &mut Lent, code: usize, met: &mut Met) -> usize {
-    let class = CLASSES[code.min(23)];
+    let class = if mutant::is("classes-of-the-built-in-table") {
+        BUILT_IN[code.min(23)]
+    } else {
+        m.words[CLASSES + code.min(23)] as u8
+    };
     let capacity = word(m, CAPACITY);
     let live = (0..capacity).find(|k| m.attribute_count[*k] > 0 && m.attributes[*k] == class);
     if live.is_some() {

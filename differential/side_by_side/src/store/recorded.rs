@@ -58,6 +58,7 @@ fn opening(a: &[usize]) -> Opening {
         internal_shingling: a[4],
         internal_rotation: a[5],
         store_labels: a[6],
+        ..Opening::default()
     }
 }
 

@@ -129,7 +129,7 @@ fn add(rust: &mut Store, s: Shape, point: &[u32], label: usize, r: &mut Returned
         compacted.compact()?;
         from = compacted.free_start();
     }
-    let (index, label_index, _) = rust.add(&floats(point), Code(label.min(255) as u8))?;
+    let (index, label_index, _) = rust.add(&floats(point), Code::of(label, &s.classes))?;
     r.numbers[0] = 0;
     if index != NONE {
         let joined = s.base != s.dimensions && rust.free_start() == from + s.base;

@@ -1,16 +1,19 @@
 //! Document 01's well-formedness of a store, clause by clause in its order: the names of those that are broken.
+use super::classes::{has_gap, table};
 use super::memory::*;
 use crate::mutant;
 use library::store::Lent;
-use reference::reasons::CLASSES;
 
 /// Every clause that can be broken, and so has to be met broken alone.
-pub const CLAUSES: [&str; 63] = [
+pub const CLAUSES: [&str; 66] = [
     "record too short",
     "shingling flag above 1",
     "rotation flag above 1",
     "labels flag above 1",
     "sequence above 4,294,967,295",
+    "a class above 255",
+    "a class above 9",
+    "a class from 0 to the largest used is missing",
     "dimensions 0",
     "dimensions above 64",
     "shingle size 0",
@@ -114,6 +117,14 @@ fn record(m: &Lent, b: &mut Broken) {
     b.note("rotation flag above 1", m.words[INTERNAL_ROTATION] > 1);
     b.note("labels flag above 1", m.words[STORE_LABELS] > 1);
     b.note("sequence above 4,294,967,295", m.words[SEQUENCE] > LARGEST_SEQUENCE);
+    let table = table(m);
+    let largest = table.iter().copied().max().unwrap_or(0);
+    b.note("a class above 255", largest > 255);
+    b.note("a class above 9", (10..=255).contains(&largest));
+    b.note(
+        "a class from 0 to the largest used is missing",
+        largest <= 9 && has_gap(&table),
+    );
 }
 
 /// Dimensions 1 to 64, shingle size divides them, capacity 1 to 1,024, capacity x dimensions at most 16,384.
@@ -220,7 +231,7 @@ fn points(m: &Lent, b: &mut Broken) {
         &m.words[TABLE_LENGTH..],
         &m.index_starts,
         &m.index_ends,
-        &CLAUSES[32..36],
+        &CLAUSES[35..39],
         b,
     );
     let mut places = Vec::new();
@@ -254,7 +265,7 @@ fn labels(m: &Lent, b: &mut Broken) {
         &m.words[LABEL_CAPACITY..],
         &m.label_starts,
         &m.label_ends,
-        &CLAUSES[36..40],
+        &CLAUSES[39..43],
         b,
     );
     for (is_free, count) in free.iter().zip(&m.label_count) {
@@ -262,7 +273,7 @@ fn labels(m: &Lent, b: &mut Broken) {
         b.note("a label that is not free has no count", !*is_free && *count == 0);
     }
     let words = &m.words[SLOT_CAPACITY..];
-    let free = free_indices(words, &m.attribute_starts, &m.attribute_ends, &CLAUSES[40..44], b);
+    let free = free_indices(words, &m.attribute_starts, &m.attribute_ends, &CLAUSES[43..47], b);
     for (is_free, count) in free.iter().zip(&m.attribute_count) {
         b.note("a free slot has a count", *is_free && *count > 0);
         b.note("a slot that is not free has no count", !*is_free && *count == 0);
@@ -271,7 +282,7 @@ fn labels(m: &Lent, b: &mut Broken) {
     for l in (0..capacity).filter(|l| m.label_count[*l] > 0) {
         let (code, slot) = (m.labels[l] as usize, m.label_attributes[l] as usize);
         b.note("a live label's code is above 23", code > 23);
-        let holds = slot < capacity && (code > 23 || m.attributes[slot] == CLASSES[code]);
+        let holds = slot < capacity && (code > 23 || m.attributes[slot] as u64 == m.words[CLASSES + code]);
         let held = holds || mutant::is("a-slot-of-another-class") && slot < capacity;
         b.note("a live label's slot does not hold its class", !held);
         if slot < capacity {

@@ -1,14 +1,10 @@
 -- Each way out is one of the laws of `store_check`.
 use borrow.Author.Needs.{needs}
-use Prim.Native.Nat.{ℕ}
 use native.Mathlib.Omega.{arith}
-use mathlib.Core.List.{List}
 use mathlib.Core.Bool.{false≢true}
-use mathlib.Core.Path.{sym, _∙_, ap}
+use mathlib.Core.Path.{sym, _∙_}
 use lib.ListN.{length, length-replicate}
-use Rattle.labels.specs.Labels.{labelsOk}
 use Rattle.store_definitions.specs.Memory.{pointStore}
-use Rattle.store_definitions.specs.Parts.{labelHalf}
 use Rattle.store_check.specs.Tables.{tables}
 use Rattle.store_check.specs.CheckLaws.{record-ready, record-fails, points-fail, labels-decide}
 use Rattle.hold_check.proofs.store.store_well.Statement.{statement}
@@ -20,10 +16,7 @@ record-well-requires c κs = search needs
 points-listed-requires : tie.Need-points-listed-requires
 points-listed-requires c κs =
     let a = c .before .before .before .before .before .before .before .before .before .before .before .before .before .before .before .before .args in
-    (record-ready (a .s) (a .floats) (a .window) (length (a .index-starts .now)) (length (a .index-ends .now)) (a .reference-count .now) (a .location .now) (sym (c .before .record-well .ensures) ∙ c .if1 .taken), c .before .before .before .before .before .before .before .before .before .before .before .before .before .before .before .before .pre)
-
-reason-classes-requires : tie.Need-reason-classes-requires
-reason-classes-requires c κs = search needs
+    (record-ready (a .t1) (a .floats) (a .window) (length (a .index-starts .now)) (length (a .index-ends .now)) (a .reference-count .now) (a .location .now) (sym (c .before .record-well .ensures) ∙ c .if1 .taken), c .before .before .before .before .before .before .before .before .before .before .before .before .before .before .before .before .pre)
 
 labels-well-formed-requires : tie.Need-labels-well-formed-requires
 labels-well-formed-requires c κs = search needs
@@ -31,17 +24,16 @@ labels-well-formed-requires c κs = search needs
 returns : tie.Need-returns
 returns c =
     let a = c .before .before .before .before .before .before .before .before .before .before .before .before .before .before .before .before .before .before .before .before .before .before .before .args in
-    let q = pointStore (a .s) (tables (a .floats) (a .window) (a .reference-count) (a .location) (a .index-starts) (a .index-ends) (a .labels) (a .label-attributes) (a .label-count) (a .label-starts) (a .label-ends) (a .attributes) (a .attribute-count) (a .attribute-starts) (a .attribute-ends)) in (
+    let q = pointStore (a .t1) (tables (a .floats) (a .window) (a .reference-count) (a .location) (a .index-starts) (a .index-ends) (a .labels) (a .label-attributes) (a .label-count) (a .label-starts) (a .label-ends) (a .attributes) (a .attribute-count) (a .attribute-starts) (a .attribute-ends)) in (
       c .labels-well-formed .ensures
-          ∙ (ap (λ (t : List ℕ). labelsOk (a .s .«store_labels») t (a .s .capacity) (labelHalf q)) (c .before .before .before .before .reason-classes .ensures)
-          ∙ labels-decide q (a .floats) (a .window) (length-replicate {A = Unit {0}} (a .floats) tt) (length-replicate {A = Unit {0}} (a .window) tt) (λ i. omega (arith, c .before .before .before .before .before .before .before .before .before .before .before .before .before .before .before .before .before .before .before .before .before .before .shared-slice-known .given i)) (sym (c .before .before .before .before .before .before .before .before .record-well .ensures) ∙ c .before .before .before .before .before .before .before .if1 .taken) (sym (c .before .before .before .before .before .before .points-listed .ensures .0) ∙ c .before .before .before .before .before .if2 .taken)),
+          ∙ labels-decide q (a .floats) (a .window) (length-replicate {A = Unit {0}} (a .floats) tt) (length-replicate {A = Unit {0}} (a .window) tt) (λ i. omega (arith, c .before .before .before .before .before .before .before .before .before .before .before .before .before .before .before .before .before .before .before .before .before .before .shared-slice-known .given i)) (sym (c .before .before .before .before .before .before .before .before .record-well .ensures) ∙ c .before .before .before .before .before .before .before .if1 .taken) (sym (c .before .before .before .before .before .before .points-listed .ensures .0) ∙ c .before .before .before .before .before .if2 .taken),
       λ e. c .before .before .before .before .before .before .points-listed .ensures .1 (c .before .before .before .before .before .if2 .taken),
     )
 
 returns-2 : tie.Need-returns-2
 returns-2 c =
     let a = c .before .before .before .before .before .before .before .before .before .before .before .before .before .before .before .before .before .before .args in
-    let q = pointStore (a .s) (tables (a .floats) (a .window) (a .reference-count) (a .location) (a .index-starts) (a .index-ends) (a .labels) (a .label-attributes) (a .label-count) (a .label-starts) (a .label-ends) (a .attributes) (a .attribute-count) (a .attribute-starts) (a .attribute-ends)) in (
+    let q = pointStore (a .t1) (tables (a .floats) (a .window) (a .reference-count) (a .location) (a .index-starts) (a .index-ends) (a .labels) (a .label-attributes) (a .label-count) (a .label-starts) (a .label-ends) (a .attributes) (a .attribute-count) (a .attribute-starts) (a .attribute-ends)) in (
       points-fail q (a .floats) (a .window) (length-replicate {A = Unit {0}} (a .floats) tt) (length-replicate {A = Unit {0}} (a .window) tt) (λ i. omega (arith, c .before .before .before .before .before .before .before .before .before .before .before .before .before .before .before .before .before .shared-slice-known .given i)) (sym (c .before .before .before .record-well .ensures) ∙ c .before .before .if1 .taken) (sym (c .before .points-listed .ensures .0) ∙ c .if2 .left),
       λ e. absurd (false≢true e),
     )
@@ -49,7 +41,7 @@ returns-2 c =
 returns-3 : tie.Need-returns-3
 returns-3 c =
     let a = c .before .before .before .before .before .before .before .before .before .before .before .before .before .before .before .before .args in
-    let q = pointStore (a .s) (tables (a .floats) (a .window) (a .reference-count) (a .location) (a .index-starts) (a .index-ends) (a .labels) (a .label-attributes) (a .label-count) (a .label-starts) (a .label-ends) (a .attributes) (a .attribute-count) (a .attribute-starts) (a .attribute-ends)) in (
+    let q = pointStore (a .t1) (tables (a .floats) (a .window) (a .reference-count) (a .location) (a .index-starts) (a .index-ends) (a .labels) (a .label-attributes) (a .label-count) (a .label-starts) (a .label-ends) (a .attributes) (a .attribute-count) (a .attribute-starts) (a .attribute-ends)) in (
       record-fails q (a .floats) (a .window) (length-replicate {A = Unit {0}} (a .floats) tt) (length-replicate {A = Unit {0}} (a .window) tt) (λ i. omega (arith, c .before .before .before .before .before .before .before .before .before .before .before .before .before .before .before .shared-slice-known .given i)) (sym (c .before .record-well .ensures) ∙ c .if1 .left),
       λ e. absurd (false≢true e),
     )
@@ -60,7 +52,6 @@ store-well-spec =
     (tie.spec
     record-well-requires
     points-listed-requires
-    reason-classes-requires
     labels-well-formed-requires
     returns
     returns-2

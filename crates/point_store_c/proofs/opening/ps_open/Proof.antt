@@ -13,9 +13,9 @@ short-record-requires c κs = tt
 
 returns : tie.Need-returns
 returns c =
-    let a = c .before .before .before .before .before .before .before .before .before .before .before .before .before .before .before .before .before .before .before .args in
+    let a = c .before .before .before .before .before .before .before .before .before .before .before .before .before .before .before .before .before .before .before .before .args in
     let h = c .before .before .shape-in in
-    open-short (a .words .now) (h .result) (shapeIn (a .dimensions) (a .shingle-size) (a .capacity) (a .initial-capacity) (a .internal-shingling) (a .internal-rotation) (a .store-labels)) (h .ensures)
+    open-short (a .words .now) (h .result) (shapeIn (a .dimensions) (a .shingle-size) (a .capacity) (a .initial-capacity) (a .internal-shingling) (a .internal-rotation) (a .store-labels)) (h .ensures) (a .class-text .now)
     (memory (a .store .now) (a .last-known-shingle .now) (a .reference-count .now) (a .location .now) (a .index-starts .now) (a .index-ends .now) (a .labels .now) (a .label-attributes .now) (a .label-count .now) (a .label-starts .now) (a .label-ends .now) (a .attributes .now) (a .attribute-count .now) (a .attribute-starts .now) (a .attribute-ends .now)) (c .short-record .result) (c .before .if1 .taken) (c .short-record .ensures)
 
 open-requires : tie.Need-open-requires
@@ -75,11 +75,11 @@ same-length-16 c = c .before .before .before .before .before .before .before .be
 
 returns-2 : tie.Need-returns-2
 returns-2 c =
-    let a = c .before .before .before .before .before .before .before .before .before .before .before .before .before .before .before .before .before .before .before .before .before .before .before .before .before .before .before .before .before .before .before .before .before .before .before .before .before .before .before .before .before .before .before .before .before .before .before .before .before .before .before .before .before .before .before .before .before .before .before .before .before .before .before .before .before .before .before .before .args in
+    let a = c .before .before .before .before .before .before .before .before .before .before .before .before .before .before .before .before .before .before .before .before .before .before .before .before .before .before .before .before .before .before .before .before .before .before .before .before .before .before .before .before .before .before .before .before .before .before .before .before .before .before .before .before .before .before .before .before .before .before .before .before .before .before .before .before .before .before .before .before .before .args in
     let h = c .before .before .before .before .before .before .before .before .before .before .before .before .before .before .before .before .before .before .before .before .before .before .before .before .before .before .before .before .before .before .before .before .before .before .before .before .before .before .before .before .before .before .before .before .before .before .before .before .before .before .before .shape-in in
     let g = c .before .before .before .before .before .before .before .before .before .before .before .before .before .before .before .before .before .before .before .before .before .before .before .before .before .before .before .before .before .before .before .before .before .before .open in
     let o = c .before .before .opened-out in
-    open-long (a .words .now) (h .result) (shapeIn (a .dimensions) (a .shingle-size) (a .capacity) (a .initial-capacity) (a .internal-shingling) (a .internal-rotation) (a .store-labels)) (h .ensures)
+    open-long (a .words .now) (h .result) (shapeIn (a .dimensions) (a .shingle-size) (a .capacity) (a .initial-capacity) (a .internal-shingling) (a .internal-rotation) (a .store-labels)) (h .ensures) (a .class-text .now)
     (memory (a .store .now) (a .last-known-shingle .now) (a .reference-count .now) (a .location .now) (a .index-starts .now) (a .index-ends .now) (a .labels .now) (a .label-attributes .now) (a .label-count .now) (a .label-starts .now) (a .label-ends .now) (a .attributes .now) (a .attribute-count .now) (a .attribute-starts .now) (a .attribute-ends .now)) (doneMeans (g .result .answer)) (g .result .store)
     (memory (g .last .1 .0) (g .last .1 .1 .0) (g .last .1 .1 .1 .0) (g .last .1 .1 .1 .1 .0) (g .last .1 .1 .1 .1 .1 .0) (g .last .1 .1 .1 .1 .1 .1 .0) (g .last .1 .1 .1 .1 .1 .1 .1 .0) (g .last .1 .1 .1 .1 .1 .1 .1 .1 .0) (g .last .1 .1 .1 .1 .1 .1 .1 .1 .1 .0) (g .last .1 .1 .1 .1 .1 .1 .1 .1 .1 .1 .0) (g .last .1 .1 .1 .1 .1 .1 .1 .1 .1 .1 .1 .0) (g .last .1 .1 .1 .1 .1 .1 .1 .1 .1 .1 .1 .1 .0) (g .last .1 .1 .1 .1 .1 .1 .1 .1 .1 .1 .1 .1 .1 .0) (g .last .1 .1 .1 .1 .1 .1 .1 .1 .1 .1 .1 .1 .1 .1 .0) (g .last .1 .1 .1 .1 .1 .1 .1 .1 .1 .1 .1 .1 .1 .1 .1 .0)) (o .result) (o .last .0) (c .before .before .before .before .before .before .before .before .before .before .before .before .before .before .before .before .before .before .before .before .before .before .before .before .before .before .before .before .before .before .before .before .before .before .before .before .before .before .before .before .before .before .before .before .before .before .before .before .before .before .if1 .left) (g .ensures) (o .ensures)
 

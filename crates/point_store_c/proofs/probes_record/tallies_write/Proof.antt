@@ -24,7 +24,7 @@ cast-words-2 : tie.Need-cast-words-2
 cast-words-2 c = search needs
 
 slice-write-words-2 : tie.Need-slice-write-words-2
-slice-write-words-2 c = lt-length-sets (c .args .words .now) 15 (take 1 (tallyWords (c .args .t2))) (omega (arith, c .pre))
+slice-write-words-2 c = lt-length-sets (c .args .words .now) 39 (take 1 (tallyWords (c .args .t2))) (omega (arith, c .pre))
 
 array-read-words-3 : tie.Need-array-read-words-3
 array-read-words-3 c = search needs
@@ -33,7 +33,7 @@ cast-words-3 : tie.Need-cast-words-3
 cast-words-3 c = search needs
 
 slice-write-words-3 : tie.Need-slice-write-words-3
-slice-write-words-3 c = lt-length-sets (c .args .words .now) 15 (take 2 (tallyWords (c .args .t2))) (omega (arith, c .pre))
+slice-write-words-3 c = lt-length-sets (c .args .words .now) 39 (take 2 (tallyWords (c .args .t2))) (omega (arith, c .pre))
 
 array-read-words-4 : tie.Need-array-read-words-4
 array-read-words-4 c = search needs
@@ -42,7 +42,7 @@ cast-words-4 : tie.Need-cast-words-4
 cast-words-4 c = search needs
 
 slice-write-words-4 : tie.Need-slice-write-words-4
-slice-write-words-4 c = lt-length-sets (c .args .words .now) 15 (take 3 (tallyWords (c .args .t2))) (omega (arith, c .pre))
+slice-write-words-4 c = lt-length-sets (c .args .words .now) 39 (take 3 (tallyWords (c .args .t2))) (omega (arith, c .pre))
 
 array-read-words-5 : tie.Need-array-read-words-5
 array-read-words-5 c = search needs
@@ -51,7 +51,7 @@ cast-words-5 : tie.Need-cast-words-5
 cast-words-5 c = search needs
 
 slice-write-words-5 : tie.Need-slice-write-words-5
-slice-write-words-5 c = lt-length-sets (c .args .words .now) 15 (take 4 (tallyWords (c .args .t2))) (omega (arith, c .pre))
+slice-write-words-5 c = lt-length-sets (c .args .words .now) 39 (take 4 (tallyWords (c .args .t2))) (omega (arith, c .pre))
 
 array-read-words-6 : tie.Need-array-read-words-6
 array-read-words-6 c = search needs
@@ -60,7 +60,7 @@ cast-words-6 : tie.Need-cast-words-6
 cast-words-6 c = search needs
 
 slice-write-words-6 : tie.Need-slice-write-words-6
-slice-write-words-6 c = lt-length-sets (c .args .words .now) 15 (take 5 (tallyWords (c .args .t2))) (omega (arith, c .pre))
+slice-write-words-6 c = lt-length-sets (c .args .words .now) 39 (take 5 (tallyWords (c .args .t2))) (omega (arith, c .pre))
 
 array-read-words-7 : tie.Need-array-read-words-7
 array-read-words-7 c = search needs
@@ -69,7 +69,7 @@ cast-words-7 : tie.Need-cast-words-7
 cast-words-7 c = search needs
 
 slice-write-words-7 : tie.Need-slice-write-words-7
-slice-write-words-7 c = lt-length-sets (c .args .words .now) 15 (take 6 (tallyWords (c .args .t2))) (omega (arith, c .pre))
+slice-write-words-7 c = lt-length-sets (c .args .words .now) 39 (take 6 (tallyWords (c .args .t2))) (omega (arith, c .pre))
 
 array-read-words-8 : tie.Need-array-read-words-8
 array-read-words-8 c = search needs
@@ -78,10 +78,10 @@ cast-words-8 : tie.Need-cast-words-8
 cast-words-8 c = search needs
 
 slice-write-words-8 : tie.Need-slice-write-words-8
-slice-write-words-8 c = lt-length-sets (c .args .words .now) 15 (take 7 (tallyWords (c .args .t2))) (omega (arith, c .pre))
+slice-write-words-8 c = lt-length-sets (c .args .words .now) 39 (take 7 (tallyWords (c .args .t2))) (omega (arith, c .pre))
 
 same-length : tie.Need-same-length
-same-length c = length-sets (c .args .words .now) 15 (tallyWords (c .args .t2))
+same-length c = length-sets (c .args .words .now) 39 (tallyWords (c .args .t2))
 
 returns : tie.Need-returns
 unfolding talliesOut

@@ -4,8 +4,8 @@ use mathlib.Core.Path.{refl}
 use Rattle.store_rows.proofs.opening.fresh_record.Statement.{statement}
 use Rattle.store_rows.proofs.opening.fresh_record.Tie as tie
 
-mul-t2 : tie.Need-mul-t2
-mul-t2 c = omega (arith, c .before .pre)
+mul-t3 : tie.Need-mul-t3
+mul-t3 c = omega (arith, c .before .pre)
 
 returns : tie.Need-returns
 returns c = refl
@@ -14,5 +14,5 @@ pub fresh-record-spec : {M : Type 1} → statement M
 fresh-record-spec =
     tie.close
     (tie.spec
-    mul-t2
+    mul-t3
     returns)
