@@ -1,7 +1,7 @@
 -- Document 01, 'Refused calls': the number of each cause. The one place where they are written.
 use Prim.Native.Nat.{ℕ}
 use Rattle.terms.specs.declared.Refusal.{Refusal}
-use Rattle.terms.specs.declared.Refusal.the-variants.{IllFormed, Shape, Length, LabelCode, PointNotInUse, LabelNotInUse, CountFull, LabelsFull, PointsFull, FloatSpaceFull, ValueTooLarge, SequenceFull, ManagerCapacity, NotReleasable, HoldWidth}
+use Rattle.terms.specs.declared.Refusal.the-variants.{IllFormed, Shape, Length, LabelCode, PointNotInUse, LabelNotInUse, CountFull, LabelsFull, PointsFull, FloatSpaceFull, ValueTooLarge, SequenceFull, ManagerCapacity, NotReleasable, HoldWidth, NoEarlierReading, ClassText, TextLength}
 
 abbrev pub number : Refusal → ℕ
 -- ill-formed store or manager, or a lent slice too short for its part
@@ -34,3 +34,9 @@ number ManagerCapacity = 13
 number NotReleasable = 14
 -- a hold opened with a width of 0 or not below capacity
 number HoldWidth = 15
+-- an absent reading of a probe with no earlier one
+number NoEarlierReading = 16
+-- a text that is not that of an allowed table of classes
+number ClassText = 17
+-- a lent text too short for what is written
+number TextLength = 18

@@ -20,6 +20,9 @@ pub enum Refusal {
     ManagerCapacity,
     NotReleasable,
     HoldWidth,
+    NoEarlierReading,
+    ClassText,
+    TextLength,
 }
 
 // The index of a point. A tuple struct of its own, so that a label's index cannot stand in its place.
@@ -59,5 +62,8 @@ pub fn refusal_number(r: Refusal) -> u64
         Refusal::ManagerCapacity => 13,
         Refusal::NotReleasable => 14,
         Refusal::HoldWidth => 15,
+        Refusal::NoEarlierReading => 16,
+        Refusal::ClassText => 17,
+        Refusal::TextLength => 18,
     }
 }
