@@ -6,7 +6,7 @@ use core::fmt;
 /// What a call answers: a value, or why it was refused.
 pub type Result<T> = core::result::Result<T, Refusal>;
 
-/// Why a call was refused: fifteen causes, in the order of their numbers. Later versions have more.
+/// Why a call was refused: the causes in the order of their numbers. Later versions have more.
 ///
 /// A refused call changes nothing, except that [`FloatSpaceFull`](Refusal::FloatSpaceFull) leaves
 /// the store compacted and grown, and that the pairs before an adjust's refused one stand.
@@ -56,32 +56,35 @@ pub enum Refusal {
     NotReleasable,
     /// 15: hold opened with a width of 0 or not below the capacity.
     HoldWidth,
+    /// 18: a lent text too short for what is written.
+    TextLength,
     /// A number that this version of the crate does not know, from a later library.
     Other(u64),
 }
 
-/// The causes with the numbers 1 to 15, in order.
-const CAUSES: [Refusal; 15] = [
-    Refusal::IllFormed,
-    Refusal::Shape,
-    Refusal::Length,
-    Refusal::LabelCode,
-    Refusal::PointNotInUse,
-    Refusal::LabelNotInUse,
-    Refusal::CountFull,
-    Refusal::LabelsFull,
-    Refusal::PointsFull,
-    Refusal::FloatSpaceFull,
-    Refusal::ValueTooLarge,
-    Refusal::SequenceFull,
-    Refusal::ManagerCapacity,
-    Refusal::NotReleasable,
-    Refusal::HoldWidth,
+/// The causes by their numbers, in order. The numbers 16 and 17 are of calls that this version has not.
+const CAUSES: [(u64, Refusal); 16] = [
+    (1, Refusal::IllFormed),
+    (2, Refusal::Shape),
+    (3, Refusal::Length),
+    (4, Refusal::LabelCode),
+    (5, Refusal::PointNotInUse),
+    (6, Refusal::LabelNotInUse),
+    (7, Refusal::CountFull),
+    (8, Refusal::LabelsFull),
+    (9, Refusal::PointsFull),
+    (10, Refusal::FloatSpaceFull),
+    (11, Refusal::ValueTooLarge),
+    (12, Refusal::SequenceFull),
+    (13, Refusal::ManagerCapacity),
+    (14, Refusal::NotReleasable),
+    (15, Refusal::HoldWidth),
+    (18, Refusal::TextLength),
 ];
 
-/// The texts of the numbers 0 to 15, and last that of every other number: the words of the C header's
+/// The texts of 0 and of the causes in order, and last that of every other number: the words of the C header's
 /// `ps_refusal_text`.
-const TEXTS: [&str; 17] = [
+const TEXTS: [&str; 18] = [
     "accepted",
     "ill-formed store, hold or manager, or a lent slice too short for its part",
     "shape outside the bounds",
@@ -98,6 +101,7 @@ const TEXTS: [&str; 17] = [
     "manager capacity outside 1 to 1,024",
     "index free already, or not below the capacity",
     "hold width of 0, or not below the capacity",
+    "text too short for what is written",
     "no refusal of this library",
 ];
 
@@ -106,25 +110,29 @@ impl Refusal {
     pub fn number(self) -> u64 {
         match self {
             Refusal::Other(number) => number,
-            _ => (1..)
-                .zip(CAUSES)
-                .find_map(|(number, cause)| (cause == self).then_some(number))
+            _ => CAUSES
+                .iter()
+                .find_map(|(number, cause)| (*cause == self).then_some(*number))
                 .unwrap_or(0),
         }
     }
 
     /// The cause in words, the same as in C.
     pub fn text(self) -> &'static str {
-        let last = TEXTS.len() - 1;
-        TEXTS[(self.number() as usize).min(last)]
+        let at = CAUSES
+            .iter()
+            .position(|(number, _)| *number == self.number());
+        TEXTS[at.map_or(TEXTS.len() - 1, |at| at + 1)]
     }
 
     /// What a return value of the library stands for: 0 is no refusal.
     pub(crate) fn of_number(number: u64) -> Result<()> {
         match number {
             0 => Ok(()),
-            1..=15 => Err(CAUSES[number as usize - 1]),
-            _ => Err(Refusal::Other(number)),
+            _ => Err(CAUSES
+                .iter()
+                .find_map(|(known, cause)| (*known == number).then_some(*cause))
+                .unwrap_or(Refusal::Other(number))),
         }
     }
 }
@@ -173,9 +181,9 @@ mod tests {
     #[test]
     fn every_number_stands_for_its_cause() {
         assert_eq!(Refusal::of_number(0), Ok(()));
-        for number in 1..=15 {
+        for (number, cause) in CAUSES {
             let refusal = Refusal::of_number(number).unwrap_err();
-            assert_eq!(refusal, CAUSES[number as usize - 1]);
+            assert_eq!(refusal, cause);
             assert_eq!(refusal.number(), number);
         }
     }
@@ -195,12 +203,12 @@ mod tests {
         let (texts, _) = texts.split_once("\n}\n").unwrap();
         let texts: Vec<&str> = texts.split('"').skip(1).step_by(2).collect();
         assert_eq!(texts, TEXTS);
-        for number in 1..=15 {
-            let refusal = Refusal::of_number(number).unwrap_err();
-            assert_eq!(refusal.text(), texts[number as usize]);
+        for (at, (number, _)) in CAUSES.iter().enumerate() {
+            let refusal = Refusal::of_number(*number).unwrap_err();
+            assert_eq!(refusal.text(), texts[at + 1]);
         }
-        assert_eq!(Refusal::Other(16).text(), texts[16]);
-        assert_eq!(Refusal::Other(u64::MAX).text(), texts[16]);
+        assert_eq!(Refusal::Other(16).text(), texts[17]);
+        assert_eq!(Refusal::Other(u64::MAX).text(), texts[17]);
     }
 
     #[test]

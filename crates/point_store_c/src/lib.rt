@@ -10,6 +10,7 @@ mod label_readings;
 mod manager;
 mod name;
 mod opening;
+mod page_call;
 mod readings;
 mod record;
 mod rows;

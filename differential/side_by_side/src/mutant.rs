@@ -22,7 +22,7 @@ pub const OF_THE_MANAGER: [&str; 13] = [
 ];
 
 /// Sown in the store's part.
-pub const OF_THE_STORE: [&str; 38] = [
+pub const OF_THE_STORE: [&str; 46] = [
     "compaction-leaves-old-places",
     "no-zeros-before-a-block",
     "add-never-grows-the-floats",
@@ -49,6 +49,14 @@ pub const OF_THE_STORE: [&str; 38] = [
     "a-slot-of-another-class",
     "two-slots-of-one-class",
     "a-slot-count-that-is-no-sum",
+    "page-in-seven-columns",
+    "page-with-leading-zeros",
+    "page-lists-a-dead-index",
+    "page-in-falling-order",
+    "page-in-order-of-place",
+    "page-refuses-18-before-1",
+    "harness-writes-past-the-page",
+    "harness-writes-to-a-text-too-short",
     "harness-swaps-index-and-label",
     "harness-writes-the-answer-of-a-refused-store-call",
     "harness-never-compacts",

@@ -15,6 +15,7 @@ pub mod model;
 mod model_readings;
 pub mod model_rows;
 mod name;
+mod page;
 mod recorded;
 mod refused_pairs;
 pub mod rust_side;
@@ -60,6 +61,7 @@ const RUBBISH_CALLS: u64 = 2_000_000;
 const BROKEN_EACH: u64 = 1_000;
 const REFUSED_PAIRS_STORES: u64 = 10_000;
 const SMALL_STARTS_EACH: u64 = 20;
+const PAGED_STORES: u64 = 10_000;
 
 fn random_lists(seed: u64) -> Result<Coverage, String> {
     // 1 and 2 need other memory and shapes, 7 needs 65,534 incs.
@@ -113,6 +115,12 @@ fn recorded() -> Result<Coverage, String> {
 fn name() -> Result<Coverage, String> {
     let mut coverage = Coverage::new("the library's name", &name::KINDS);
     name::of_every_length(&mut coverage)?;
+    Ok(coverage)
+}
+
+fn pages() -> Result<Coverage, String> {
+    let mut coverage = Coverage::new("store, pages in texts of every length", &page::KINDS);
+    page::in_every_length(16, share(PAGED_STORES).max(1), &mut coverage)?;
     Ok(coverage)
 }
 
@@ -170,8 +178,9 @@ fn rubbish() -> Result<Coverage, String> {
 pub type Part = fn() -> Result<Coverage, String>;
 
 /// The random lists come last, in four parts under one title.
-const PARTS: [Part; 14] = [
+const PARTS: [Part; 15] = [
     name,
+    pages,
     differences,
     recorded,
     broken,
