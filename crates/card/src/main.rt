@@ -15,14 +15,23 @@ use paged::page_of;
 
 // The words of the floats 1.0 to 10.0.
 const ONE: u32 = 0x3f80_0000;
+
 const TWO: u32 = 0x4000_0000;
+
 const THREE: u32 = 0x4040_0000;
+
 const FOUR: u32 = 0x4080_0000;
+
 const FIVE: u32 = 0x40a0_0000;
+
 const SIX: u32 = 0x40c0_0000;
+
 const SEVEN: u32 = 0x40e0_0000;
+
 const EIGHT: u32 = 0x4100_0000;
+
 const NINE: u32 = 0x4110_0000;
+
 const TEN: u32 = 0x4120_0000;
 
 fn opened() -> Block {
