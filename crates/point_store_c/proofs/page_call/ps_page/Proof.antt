@@ -17,13 +17,13 @@ number-out-requires : tie.Need-number-out-requires
 number-out-requires c κs = tt
 
 same-length : tie.Need-same-length
-same-length c = c .before .before .before .page .kept .1 .1 .1 .1 .1 .1 .1 .1 .1 .1 .1 .1 .1 .1 .1 .1 .0
+same-length c = c .before .before .before .before .page .kept .1 .1 .1 .1 .1 .1 .1 .1 .1 .1 .1 .1 .1 .1 .1 .1 .0
 
 returns : tie.Need-returns
 returns c =
-    let a = c .before .before .before .before .before .before .before .before .before .before .before .before .before .before .before .before .before .before .before .before .before .before .before .args in
-    let i = c .before .before .before .before .before .store-in in
-    let g = c .before .before .before .page in
+    let a = c .before .before .before .before .before .before .before .before .before .before .before .before .before .before .before .before .before .before .before .before .before .before .before .before .args in
+    let i = c .before .before .before .before .before .before .store-in in
+    let g = c .before .before .before .before .page in
     let o = c .number-out in
     page-exported (a .words .now) (memory (a .store .now) (a .last-known-shingle .now) (a .reference-count .now) (a .location .now) (a .index-starts .now) (a .index-ends .now) (a .labels .now) (a .label-attributes .now) (a .label-count .now) (a .label-starts .now) (a .label-ends .now) (a .attributes .now) (a .attribute-count .now) (a .attribute-starts .now) (a .attribute-ends .now)) (i .result) (i .ensures)
     (λ p. pageSpec p (a .text .now)) (numberMeans (g .result)) (g .last .1 .1 .1 .1 .1 .1 .1 .1 .1 .1 .1 .1 .1 .1 .1 .1 .0) (g .ensures) (a .page-length .now ∷ []) (o .last .1 .0 ∷ []) (o .result) (o .ensures)
