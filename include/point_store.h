@@ -76,9 +76,9 @@ extern "C" {
 
 /* The version of this header. ps_version_agrees() tells whether the archive has the same. */
 #define PS_VERSION_MAJOR 0
-#define PS_VERSION_MINOR 8
+#define PS_VERSION_MINOR 9
 #define PS_VERSION_PATCH 0
-#define PS_VERSION "0.8.0"
+#define PS_VERSION "0.9.0"
 
 /* The sizes that the declarations below rely on; where one differs, the line does not compile. */
 typedef char ps_size_t_has_8_bytes[sizeof(size_t) == 8 ? 1 : -1];
@@ -103,7 +103,8 @@ enum ps_refusal {
     PS_NOT_RELEASABLE = 14,     /* release of an index free or not below capacity */
     PS_HOLD_WIDTH = 15,         /* hold opened with a width of 0 or not below capacity */
     PS_NO_EARLIER_READING = 16, /* an absent reading of a probe with no earlier one */
-    PS_CLASS_TEXT = 17          /* a text that is not that of an allowed table of classes, on opening */
+    PS_CLASS_TEXT = 17,         /* a text that is not that of an allowed table of classes, on opening */
+    PS_TEXT_LENGTH = 18         /* a lent text too short for what is written */
 };
 
 static inline const char *ps_refusal_text(uint64_t number) {
@@ -126,6 +127,7 @@ static inline const char *ps_refusal_text(uint64_t number) {
     case PS_HOLD_WIDTH: return "hold width of 0, or not below the capacity";
     case PS_NO_EARLIER_READING: return "an absent reading of a probe with no earlier one";
     case PS_CLASS_TEXT: return "text that is not that of an allowed table of classes";
+    case PS_TEXT_LENGTH: return "text too short for what is written";
     default: return "no refusal of this library";
     }
 }
@@ -138,6 +140,10 @@ static inline const char *ps_refusal_text(uint64_t number) {
 #define PS_MAX_DIMENSIONS 64
 #define PS_MAX_CAPACITY 1024
 #define PS_MAX_FLOATS 16384
+
+/* The bytes of a page of so many live indices: a line of 19 for each. */
+#define PS_PAGE_LINE_BYTES 19
+#define PS_PAGE_BYTES(live) ((size_t)PS_PAGE_LINE_BYTES * (size_t)(live))
 
 /* The floats of attribute_vec. */
 #define PS_ATTRIBUTE_FLOATS 10
@@ -263,6 +269,8 @@ uint64_t ps_copy(const uint64_t *words, size_t words_len, PS_READ_, size_t index
 uint64_t ps_count(const uint64_t *words, size_t words_len, PS_READ_, size_t index, uint64_t *count);
 uint64_t ps_live_number(const uint64_t *words, size_t words_len, PS_READ_, uint64_t *number);
 uint64_t ps_free_start(const uint64_t *words, size_t words_len, PS_READ_, uint64_t *number);
+uint64_t ps_page(const uint64_t *words, size_t words_len, PS_READ_,
+    uint8_t *text, size_t text_len, uint64_t *page_length);
 uint64_t ps_is_equal(const uint64_t *words, size_t words_len, PS_READ_,
     size_t index, const uint32_t *point, size_t point_len, uint64_t *equal);
 uint64_t ps_point_sum(const uint64_t *words, size_t words_len, PS_READ_,
@@ -607,6 +615,16 @@ static inline uint64_t ps_store_free_start(const struct ps_store *s, uint64_t *n
     if (!s || !number)
         return PS_ILL_FORMED;
     return ps_free_start(PS_LENT_(s), number);
+}
+
+/* The store on a page: a line for each live index in rising order, its index, count and place right-justified in six columns each, and
+ * a line feed. The page goes to the front of `text`, without an end mark; what lies past it is left as it was, and `page_length` gets
+ * its length. PS_PAGE_BYTES(live) bytes are enough for `live` indices, PS_PAGE_BYTES(capacity) for every store. Refused with 1, and
+ * with 18 where `text` is too short, which is then not written to. */
+static inline uint64_t ps_store_page(const struct ps_store *s, char *text, size_t text_len, uint64_t *page_length) {
+    if (!s || !page_length || PS_MISSING_(text, text_len))
+        return PS_ILL_FORMED;
+    return ps_page(PS_LENT_(s), PS_SLICE_(uint8_t, text, text_len), page_length);
 }
 
 /* Whether a point equals the copy of an index, bit for bit: `equal` gets 0 or 1. Refused with 1, 5, 3. */

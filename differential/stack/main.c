@@ -18,6 +18,7 @@ static struct ps_store s = {{0}, {floats, PS_FLOATS(CAPACITY, DIMENSIONS), windo
     CAPACITY, tables[2], CAPACITY, tables[3], CAPACITY, labels, CAPACITY, tables[4], CAPACITY, tables[5], CAPACITY, tables[6],
     CAPACITY, tables[7], CAPACITY, attributes, CAPACITY, attribute_count, CAPACITY, tables[8], CAPACITY, tables[9], CAPACITY}};
 static struct ps_hold h;
+static struct ps_probes p;
 static struct ps_added added;
 static uint64_t number, answer;
 
@@ -45,6 +46,13 @@ static void attribute_vec(void) { number = ps_store_attribute_vec(&s, 0, out, PS
 static void hold_open(void) { number = ps_store_hold_open(&h, &shape, CAPACITY - 1, PS_REASON_CLASSES, PS_CLASS_TEXT_BYTES); }
 static void hold_add(void) { number = ps_store_hold_add(&h, row, DIMENSIONS, 3, &added); }
 static void hold_held(void) { number = ps_store_hold_held(&h, held, CAPACITY - 1); }
+
+static const struct ps_shape product = {DIMENSIONS, DIMENSIONS / PS_PROBES, CAPACITY, CAPACITY, 1, 0, 1};
+static const uint8_t kinds[PS_PROBES] = {PS_MEASURED, PS_ESTIMATED, PS_MEASURED, PS_MEASURED};
+static uint32_t tallies[PS_PROBES];
+static void probes_open(void) { number = ps_store_probes_open(&p, &product); }
+static void probes_set(void) { number = ps_store_probes_set(&p, kinds, PS_PROBES, row, PS_PROBES, 3, &added); }
+static void probes_tallies(void) { number = ps_store_probes_tallies(&p, tallies, PS_PROBES); }
 
 static void *made(void *call) {
     (*(void (**)(void))call)();
@@ -101,6 +109,15 @@ int main(void) {
         hold_add();
     }
     wrong |= judged("hold add that compacts", hold_add, empty) | judged("hold held", hold_held, empty);
+    /* a product over the same memory, each window given up at once: every set takes eight floats more, and the next one compacts */
+    p.store.memory = s.memory;
+    wrong |= judged("probes open", probes_open, empty);
+    while (number == PS_OK && p.store.words[7] + DIMENSIONS <= PS_FLOATS(CAPACITY, DIMENSIONS)) {
+        probes_set();
+        if (number == PS_OK && added.kept)
+            number = ps_store_dec(&p.store, (size_t)added.index, (size_t)added.label_index);
+    }
+    wrong |= judged("probes set that compacts", probes_set, empty) | judged("probes tallies", probes_tallies, empty);
     printf("%6d PS_STACK of the header\n", PS_STACK);
     return wrong;
 }

@@ -1,6 +1,6 @@
 /*
  * A fan loop: temperature readings go into a hold of the newest windows, which gives up the oldest by itself; its store is compacted,
- * and the windows that are held are printed.
+ * and the windows that are held are printed, and the page of their indices.
  */
 #include <inttypes.h>
 #include <stdio.h>
@@ -35,6 +35,14 @@ static void print_held(const struct ps_hold *h) {
             printf(" %.1f", (double)row[k]);
         printf("\n");
     }
+}
+
+/* The page for the card: each live index with its count and its place. */
+static void print_page(const struct ps_store *s) {
+    char page[PS_PAGE_BYTES(CAPACITY)];
+    uint64_t length;
+    accepted(ps_store_page(s, page, sizeof page, &length), "page");
+    printf("%.*s", (int)length, page);
 }
 
 int main(void) {
@@ -77,6 +85,7 @@ int main(void) {
     accepted(ps_store_free_start(&h.store, &free_start), "free_start");
     printf("compacted: free start %" PRIu64 "\n", free_start);
     print_held(&h);
+    print_page(&h.store);
 
     number = ps_store_hold_open(&h, &shape, CAPACITY, PS_REASON_CLASSES, PS_CLASS_TEXT_BYTES);
     printf("a hold as wide as its capacity: refused with %" PRIu64 ", %s\n", number, ps_refusal_text(number));

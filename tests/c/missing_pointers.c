@@ -22,6 +22,7 @@ int main(void) {
     const float reading[BASE] = {40.0f, 35.0f};
     float row[DIMENSIONS], vec[PS_ATTRIBUTE_FLOATS];
     size_t numbers[BASE], values[BASE] = {0, 1};
+    char page[PS_PAGE_BYTES(CAPACITY)];
     struct ps_pair pair = {0, 0, PS_NONE, PS_NONE};
     struct ps_item item = {0, 1};
     uint64_t number = 77, before_null = 77, before_list = 77;
@@ -53,6 +54,7 @@ int main(void) {
     SAY(ps_store_count(NULL, 0, &number));
     SAY(ps_store_live_number(NULL, &number));
     SAY(ps_store_free_start(NULL, &number));
+    SAY(ps_store_page(NULL, page, sizeof page, &number));
     SAY(ps_store_is_equal(NULL, 0, row, DIMENSIONS, &number));
     SAY(ps_store_point_sum(NULL, &item, 1, row, DIMENSIONS));
     SAY(ps_store_shingled_point(NULL, reading, BASE, row, DIMENSIONS));
@@ -86,12 +88,14 @@ int main(void) {
     SAY(ps_store_missing_indices(&s, 0, values, BASE, NULL, 0));
     SAY(ps_store_next_indices(&s, 0, NULL, BASE));
     SAY(ps_store_attribute_vec(&s, 0, NULL, PS_ATTRIBUTE_FLOATS));
+    SAY(ps_store_page(&s, NULL, PS_PAGE_BYTES(1), &number));
 
     printf("no answer\n");
     SAY(ps_store_add(&s, reading, BASE, 0, NULL));
     SAY(ps_store_count(&s, 0, NULL));
     SAY(ps_store_live_number(&s, NULL));
     SAY(ps_store_free_start(&s, NULL));
+    SAY(ps_store_page(&s, page, sizeof page, NULL));
     SAY(ps_store_is_equal(&s, 0, row, DIMENSIONS, NULL));
     SAY(ps_store_label(&s, 0, NULL));
     SAY(ps_store_attribute(&s, 0, NULL));
@@ -106,6 +110,7 @@ int main(void) {
     SAY(ps_store_adjust(&s, NULL, 0, NULL));
     SAY(ps_store_point_sum(&s, NULL, 0, row, DIMENSIONS));
     SAY(ps_store_missing_indices(&s, 0, NULL, 0, NULL, 0));
+    SAY(ps_store_page(&s, NULL, 0, &number));
     pair.insert_index = CAPACITY;
     SAY(ps_store_adjust(&s, &pair, 1, NULL));
 

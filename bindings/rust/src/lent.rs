@@ -166,6 +166,10 @@ impl ReadMemory<'_> {
         number(|start| sys::free_start(self, start))
     }
 
+    pub(crate) fn page(&self, text: &mut [u8]) -> Result<usize> {
+        number(|length| sys::page(self, text, length))
+    }
+
     pub(crate) fn is_equal(&self, point: &[f32], index: usize) -> Result<bool> {
         number(|equal| sys::is_equal(self, index, point, equal)).map(|equal| equal != 0)
     }
@@ -309,6 +313,15 @@ impl<'a> LentPointStore<'a> {
     /// Where the next row is written, in floats.
     pub fn free_start(&self) -> Result<usize> {
         self.memory.read().free_start()
+    }
+
+    /// The store on a page, at the front of `text`, and the page's length in bytes: 19 for each live
+    /// index. Bytes past it are left as they were. [`Refusal::TextLength`] where `text` is shorter.
+    ///
+    /// A line is an index, its count and its place, right-justified in six columns each, and a line
+    /// feed; the indices rise.
+    pub fn page(&self, text: &mut [u8]) -> Result<usize> {
+        self.memory.read().page(text)
     }
 
     /// Whether `point` equals what [`copy`](Self::copy) gives, entry by entry by the 32 bits.

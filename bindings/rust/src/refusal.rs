@@ -60,12 +60,14 @@ pub enum Refusal {
     NoEarlierReading,
     /// 17: a text that is not that of an allowed table of classes, on opening.
     ClassText,
+    /// 18: a lent text too short for what is written.
+    TextLength,
     /// A number that this version of the crate does not know, from a later library.
     Other(u64),
 }
 
 /// The causes by their numbers, in order.
-const CAUSES: [(u64, Refusal); 17] = [
+const CAUSES: [(u64, Refusal); 18] = [
     (1, Refusal::IllFormed),
     (2, Refusal::Shape),
     (3, Refusal::Length),
@@ -83,11 +85,12 @@ const CAUSES: [(u64, Refusal); 17] = [
     (15, Refusal::HoldWidth),
     (16, Refusal::NoEarlierReading),
     (17, Refusal::ClassText),
+    (18, Refusal::TextLength),
 ];
 
 /// The texts of 0 and of the causes in order, and last that of every other number: the words of the C header's
 /// `ps_refusal_text`.
-const TEXTS: [&str; 19] = [
+const TEXTS: [&str; 20] = [
     "accepted",
     "ill-formed store, hold, product or manager, or a lent slice too short for its part",
     "shape outside the bounds",
@@ -106,6 +109,7 @@ const TEXTS: [&str; 19] = [
     "hold width of 0, or not below the capacity",
     "an absent reading of a probe with no earlier one",
     "text that is not that of an allowed table of classes",
+    "text too short for what is written",
     "no refusal of this library",
 ];
 
@@ -194,9 +198,9 @@ mod tests {
 
     #[test]
     fn an_unknown_number_is_kept() {
-        let refusal = Refusal::of_number(17).unwrap_err();
-        assert_eq!(refusal, Refusal::Other(17));
-        assert_eq!(refusal.number(), 17);
+        let refusal = Refusal::of_number(99).unwrap_err();
+        assert_eq!(refusal, Refusal::Other(99));
+        assert_eq!(refusal.number(), 99);
         assert_eq!(Refusal::of_number(u64::MAX), Err(Refusal::Other(u64::MAX)));
     }
 
@@ -211,8 +215,8 @@ mod tests {
             let refusal = Refusal::of_number(*number).unwrap_err();
             assert_eq!(refusal.text(), texts[at + 1]);
         }
-        assert_eq!(Refusal::Other(18).text(), texts[18]);
-        assert_eq!(Refusal::Other(u64::MAX).text(), texts[18]);
+        assert_eq!(Refusal::Other(19).text(), texts[19]);
+        assert_eq!(Refusal::Other(u64::MAX).text(), texts[19]);
     }
 
     #[test]

@@ -166,7 +166,33 @@ impl ProvedPointStore {
     pub fn free_start(&self) -> Result<usize> {
         self.memory.read().free_start()
     }
+
+    /// The store on a page: a line for each live index in rising order, its index, count and place
+    /// right-justified in six columns each.
+    ///
+    /// ```
+    /// use point_store::{PointStore, ProvedPointStore, NONE};
+    ///
+    /// # fn main() -> point_store::Result<()> {
+    /// let mut store = ProvedPointStore::new(2, 1, 4, 4, false, false, false, false)?;
+    /// let (index, _, _) = store.add(&[20.0, 21.0], 0)?;
+    /// store.add(&[22.0, 23.0], 0)?;
+    /// store.inc(index, NONE)?;
+    /// assert_eq!(store.page()?, "     0     2     0\n     1     1     1\n");
+    /// # Ok(())
+    /// # }
+    /// ```
+    pub fn page(&self) -> Result<String> {
+        let mut text = vec![0; LINE_BYTES * self.live_number()?];
+        let length = self.memory.read().page(&mut text)?;
+        text.truncate(length);
+        // Digits, spaces and line feeds.
+        Ok(text.into_iter().map(char::from).collect())
+    }
 }
+
+/// The bytes of a page's line.
+const LINE_BYTES: usize = 19;
 
 /// The output, `length` entries long, that a call fills.
 fn filled<T: Clone + Default>(

@@ -155,6 +155,7 @@ declare! { const
     ps_count(index: usize, count: &mut u64);
     ps_live_number(number: &mut u64);
     ps_free_start(number: &mut u64);
+    ps_page(text: *mut u8, text_length: usize, page_length: &mut u64);
     ps_is_equal(index: usize, point: *const u32, point_length: usize, equal: &mut u64);
     ps_point_sum(items: *const [usize; 2], items_length: usize, out: *mut f32, out_length: usize);
     ps_shingled_point(point: *const u32, point_length: usize, out: *mut u32, out_length: usize);
@@ -437,6 +438,11 @@ pub fn live_number(memory: &ReadMemory<'_>, number: &mut u64) -> u64 {
 pub fn free_start(memory: &ReadMemory<'_>, number: &mut u64) -> u64 {
     // SAFETY: as for count.
     unsafe { read!(ps_free_start, memory, number) }
+}
+
+pub fn page(memory: &ReadMemory<'_>, text: &mut [u8], page_length: &mut u64) -> u64 {
+    // SAFETY: text and answer are borrowed to be changed, so that they overlap nothing else.
+    unsafe { read!(ps_page, memory, text.as_mut_ptr(), text.len(), page_length) }
 }
 
 pub fn is_equal(memory: &ReadMemory<'_>, index: usize, point: &[f32], equal: &mut u64) -> u64 {

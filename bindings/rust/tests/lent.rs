@@ -64,6 +64,14 @@ fn compared(rotating: bool, labels: bool) {
         assert_eq!(lent.count(index), owned.count(index));
         assert_eq!(lent.live_number(), owned.live_number());
         assert_eq!(lent.free_start(), owned.free_start());
+        let page = owned.page().unwrap();
+        let mut text = vec![b'#'; page.len() + 1];
+        assert_eq!(lent.page(&mut text), Ok(page.len()));
+        assert_eq!(text, (page.clone() + "#").into_bytes());
+        let short = page.len().saturating_sub(1);
+        if short < page.len() {
+            assert_eq!(lent.page(&mut text[..short]), Err(Refusal::TextLength));
+        }
         assert_eq!(lent.is_equal(&row, index), owned.is_equal(&row, index));
         let items = [
             Item { index, weight: 3 },

@@ -1,6 +1,6 @@
 //! The readings: what they answer, and that a float's bits come back as they were given.
 
-use point_store::{PointStore, ProvedPointStore};
+use point_store::{PointStore, ProvedPointStore, NONE};
 
 /// Document 01's classes of the codes 0 to 23.
 const CLASSES: [usize; 24] = [
@@ -156,4 +156,20 @@ fn the_name_is_the_librarys() {
     let version = concat!("point store ", env!("CARGO_PKG_VERSION"), ";");
     assert!(name.starts_with(version), "{name}");
     assert!(name.contains("05b18fcda4"), "{name}");
+}
+
+#[test]
+fn a_page_has_a_line_for_each_live_index() {
+    let mut store = shingling(false);
+    assert_eq!(store.page().as_deref(), Ok(""));
+    for k in 0..5 {
+        let x = (2 * k + 1) as f32;
+        store.add(&[x, x + 1.0], 0).unwrap();
+    }
+    for index in [0, 1] {
+        store.dec(index, NONE).unwrap();
+    }
+    store.compact().unwrap();
+    let page = "     2     1     0\n     3     1     1\n";
+    assert_eq!(store.page().as_deref(), Ok(page));
 }

@@ -2,6 +2,7 @@ pub mod Exported
 pub mod ExportedLaws
 pub mod ExportedHold
 pub mod ExportedHoldLaws
+pub mod ExportedPage
 pub mod ExportedProbes
 pub mod ExportedProbesLaws
 pub mod ExportedStore

@@ -7,15 +7,15 @@ use lib.Dec.{leb}
 use lib.ListN.{length, drop}
 use borrow.Author.Tests.{le-leb, lt-leb}
 
--- 'point store 0.8.0; requests: 1-6; port of krcf pointstore.rs 05b18fcda4; x86-64' in ASCII, filled up with spaces, a line to
+-- 'point store 0.9.0; requests: 1-7; port of krcf pointstore.rs 05b18fcda4; x86-64' in ASCII, filled up with spaces, a line to
 -- a word
 unfoldable pub nameText : List ℕ
 nameText =
     112 ∷ 111 ∷ 105 ∷ 110 ∷ 116 ∷ 32 ∷
     115 ∷ 116 ∷ 111 ∷ 114 ∷ 101 ∷ 32 ∷
-    48 ∷ 46 ∷ 56 ∷ 46 ∷ 48 ∷ 59 ∷ 32 ∷
+    48 ∷ 46 ∷ 57 ∷ 46 ∷ 48 ∷ 59 ∷ 32 ∷
     114 ∷ 101 ∷ 113 ∷ 117 ∷ 101 ∷ 115 ∷ 116 ∷ 115 ∷ 58 ∷ 32 ∷
-    49 ∷ 45 ∷ 54 ∷ 59 ∷ 32 ∷
+    49 ∷ 45 ∷ 55 ∷ 59 ∷ 32 ∷
     112 ∷ 111 ∷ 114 ∷ 116 ∷ 32 ∷
     111 ∷ 102 ∷ 32 ∷
     107 ∷ 114 ∷ 99 ∷ 102 ∷ 32 ∷

@@ -1,10 +1,10 @@
--- Document 01, 'Refused calls': the number of each cause. The one place where they are written.
+-- Document 01, 'Refused calls', and document 02's from 15 up: the number of each cause. The one place where they are written.
 use Prim.Native.Nat.{ℕ}
 use Rattle.terms.specs.declared.Refusal.{Refusal}
 use Rattle.terms.specs.declared.Refusal.the-variants.{IllFormed, Shape, Length, LabelCode, PointNotInUse, LabelNotInUse, CountFull, LabelsFull, PointsFull, FloatSpaceFull, ValueTooLarge, SequenceFull, ManagerCapacity, NotReleasable, HoldWidth, NoEarlierReading, ClassText, TextLength}
 
 abbrev pub number : Refusal → ℕ
--- ill-formed store or manager, or a lent slice too short for its part
+-- ill-formed store, manager, hold or product, or a lent slice too short for its part
 number IllFormed = 1
 -- shape outside the bounds, on opening
 number Shape = 2

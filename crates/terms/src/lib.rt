@@ -1,9 +1,9 @@
-// The terms that every crate shares: the refusals of document 01 with their numbers, the two kinds of index, and a
+// The terms that every crate shares: the refusals of documents 01 and 02 with their numbers, the two kinds of index, and a
 // binary32 float held as its 32 bits.
 ghost use mathlib.Core.Path.{_≡_};
 ghost use Rattle.terms.specs.Refusals.{number};
 
-// Why a call was refused: one case for each row of document 01's table, in the table's order.
+// Why a call was refused: one case for each number, document 01's and then document 02's, in their order.
 pub enum Refusal {
     IllFormed,
     Shape,

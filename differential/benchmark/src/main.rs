@@ -37,13 +37,14 @@ fn print_compared(rows: &[Compared]) {
 
 fn main() {
     let path = std::env::args().nth(1).expect("the picture to write");
-    let mut rows = Vec::new();
+    let mut rows: Vec<Row> = Vec::new();
     for labels in [false, true] {
         for capacity in [64, 256, 1024] {
             rows.extend(measured::rows(capacity, labels));
         }
     }
-    let order: Vec<&str> = rows.iter().take(9).map(|row| row.what).collect();
+    let kinds = rows.len() / 6;
+    let order: Vec<&str> = rows.iter().take(kinds).map(|row| row.what).collect();
     rows.sort_by_key(|row| order.iter().position(|what| *what == row.what));
     print(&rows);
     print_compared(&rows_equal::compared());

@@ -135,6 +135,7 @@ prototypes! {
     ps_count(index: usize, count: &mut u64);
     ps_live_number(number: &mut u64);
     ps_free_start(number: &mut u64);
+    ps_page(text: *mut u8, text_len: usize, page_length: &mut u64);
     ps_is_equal(index: usize, point: *const u32, point_len: usize, equal: &mut u64);
     ps_point_sum(items: *const [usize; 2], items_len: usize, out: *mut f32, out_len: usize);
     ps_shingled_point(point: *const u32, point_len: usize, out: *mut u32, out_len: usize);
@@ -269,6 +270,10 @@ impl Lent {
 
     pub fn free_start(&mut self, number: &mut u64) -> u64 {
         lend!(self, ps_free_start(number))
+    }
+
+    pub fn page(&mut self, text: &mut [u8], page_length: &mut u64) -> u64 {
+        lend!(self, ps_page(text.as_mut_ptr(), text.len(), page_length))
     }
 
     pub fn is_equal(&mut self, index: usize, point: &[u32], equal: &mut u64) -> u64 {

@@ -44,7 +44,8 @@ fn random_lists(seed: u64) -> Result<Coverage, String> {
         &lists::SHAPES[..],
         &adds,
         &on_the_way,
-        &OF_THE_RUST,
+        // An is_equal inside of a NaN, while the Rust is beside, is rare.
+        &OF_THE_RUST[..3],
         &readings,
         &crate::store::REFUSED,
     ];

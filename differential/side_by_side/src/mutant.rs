@@ -22,7 +22,7 @@ pub const OF_THE_MANAGER: [&str; 13] = [
 ];
 
 /// Sown in the store's part.
-pub const OF_THE_STORE: [&str; 43] = [
+pub const OF_THE_STORE: [&str; 51] = [
     "compaction-leaves-old-places",
     "no-zeros-before-a-block",
     "add-never-grows-the-floats",
@@ -53,6 +53,14 @@ pub const OF_THE_STORE: [&str; 43] = [
     "opening-refuses-17-before-1",
     "two-slots-of-one-class",
     "a-slot-count-that-is-no-sum",
+    "page-in-seven-columns",
+    "page-with-leading-zeros",
+    "page-lists-a-dead-index",
+    "page-in-falling-order",
+    "page-in-order-of-place",
+    "page-refuses-18-before-1",
+    "harness-writes-past-the-page",
+    "harness-writes-to-a-text-too-short",
     "harness-swaps-index-and-label",
     "harness-writes-the-answer-of-a-refused-store-call",
     "harness-never-compacts",

@@ -26,6 +26,7 @@ fn random_lists() -> Result<Coverage, String> {
         &["lists", "accepted probes_tallies", "refusal 3 of probes_tallies"][..],
         &sets,
         &call::ON_THE_WAY,
+        &["compared with the Rust", crate::store::kinds::WITHOUT_THE_RUST],
         &crate::store::REFUSED,
     ];
     let mut coverage = counts("probes, random lists of sets beside the Rust's adds", &owed);

@@ -16,6 +16,7 @@ pub mod model;
 mod model_readings;
 pub mod model_rows;
 mod name;
+mod page;
 mod recorded;
 mod refused_pairs;
 pub mod rust_side;
@@ -63,6 +64,7 @@ const BROKEN_EACH: u64 = 1_000;
 const REFUSED_PAIRS_STORES: u64 = 10_000;
 const SMALL_STARTS_EACH: u64 = 20;
 const RULES_EACH: u64 = 1_000;
+const PAGED_STORES: u64 = 10_000;
 
 fn random_lists(seed: u64) -> Result<Coverage, String> {
     // 1, 2 and 17 need other memory, shapes and texts, 7 needs 65,534 incs.
@@ -144,6 +146,12 @@ fn class_texts() -> Result<Coverage, String> {
     Ok(coverage)
 }
 
+fn pages() -> Result<Coverage, String> {
+    let mut coverage = Coverage::new("store, pages in texts of every length", &page::KINDS);
+    page::in_every_length(16, share(PAGED_STORES).max(1), &mut coverage)?;
+    Ok(coverage)
+}
+
 fn differences() -> Result<Coverage, String> {
     let mut coverage = Coverage::new(
         "store, each difference from the Rust at its smallest input",
@@ -198,9 +206,10 @@ fn rubbish() -> Result<Coverage, String> {
 pub type Part = fn() -> Result<Coverage, String>;
 
 /// The random lists come last, in four parts under one title.
-const PARTS: [Part; 15] = [
+const PARTS: [Part; 16] = [
     name,
     class_texts,
+    pages,
     differences,
     recorded,
     broken,

@@ -57,10 +57,11 @@ impl ProbeReturned {
     }
 }
 
-pub const OF_OPENING: [&str; 3] = [
+pub const OF_OPENING: [&str; 4] = [
     "accepted probes_open",
     "refusal 2 of probes_open",
     "refusal 1 of probes_open",
+    "refusal 17 of probes_open",
 ];
 
 pub const OF_SETS: [&str; 10] = [
@@ -82,13 +83,12 @@ pub const OF_TALLIES: [&str; 3] = [
     "refusal 3 of probes_tallies",
 ];
 
-pub const ON_THE_WAY: [&str; 6] = [
+pub const ON_THE_WAY: [&str; 5] = [
     "a Waiting set with an Estimated",
     "a kept set with an Estimated",
     "a refused set with an Estimated",
     "an Absent that repeats a NaN",
     "an Absent that repeats an Absent",
-    "compared with the Rust",
 ];
 
 pub fn all() -> Vec<&'static str> {
@@ -101,6 +101,7 @@ pub fn all() -> Vec<&'static str> {
         &OF_TALLIES,
         &ON_THE_WAY,
         &of_store::ON_THE_WAY,
+        &of_store::OF_THE_RUST,
         &crate::store::REFUSED,
         &inside,
     ]

@@ -5,7 +5,8 @@ use super::sides::ProbeSides;
 use crate::coverage::Coverage;
 use crate::mutant;
 use crate::store::call::Call;
-use crate::store::guess::{self, any_float, any_number, any_taste, Taste};
+use crate::store::classes::any_text;
+use crate::store::guess::{self, any_number, any_taste, Taste};
 use crate::store::lent::{any_opening, rubbish_for, SMALL};
 use crate::store::memory::*;
 use crate::store::well_formed::is_well_formed;
@@ -44,7 +45,7 @@ fn any_kind(random: &mut Random) -> u8 {
 
 pub fn any_set(taste: Taste, random: &mut Random) -> ProbeCall {
     let mut kinds: Vec<u8> = (0..PROBES).map(|_| any_kind(random)).collect();
-    let mut floats: Vec<u32> = (0..PROBES).map(|_| any_float(taste.floats, random)).collect();
+    let mut floats: Vec<u32> = (0..PROBES).map(|_| taste.float(random)).collect();
     let mut label = random.below(24);
     if random.one_in(taste.refused_in) {
         match random.below(6) {
@@ -74,7 +75,7 @@ fn list_from(o: Opening, last: usize, random: &mut Random, coverage: &mut Covera
     let far = random.one_in(10).then(|| random.below(last));
     for step in 0..last {
         if random.one_in(40) {
-            taste = any_taste(random);
+            taste = taste.changed(random);
         }
         if far == Some(step) && sides.model.words[SEQUENCE] >= o.shingle_size as u64 {
             sides.at_sequence(LARGEST_SEQUENCE - random.below(20) as u64);
@@ -127,7 +128,7 @@ pub fn openings(seed: u64, calls: u64, coverage: &mut Coverage) -> Result<(), St
             _ => any_product_opening(&mut random),
         };
         let mut memory = product_rubbish(o, &mut random);
-        match random.below(8) {
+        match random.below(9) {
             0 => o.shingle_size = random.below(10),
             1 => o.internal_shingling = random.below(3),
             2 => o.dimensions = any_number(&mut random),
@@ -138,6 +139,7 @@ pub fn openings(seed: u64, calls: u64, coverage: &mut Coverage) -> Result<(), St
             5 => {
                 memory.last_known_shingle.truncate(random.below(o.dimensions + 1));
             }
+            6 => o.class_text = any_text(&mut random),
             _ => {}
         }
         ProbeSides::over(memory).step(&ProbeCall::Open(o), coverage)?;

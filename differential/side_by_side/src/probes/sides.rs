@@ -9,7 +9,7 @@ use crate::store::library_side;
 use crate::store::memory::*;
 use crate::store::model::Met;
 use crate::store::model_rows::PAST_A_FIFTH;
-use crate::store::rust_side::{self, Outcome};
+use crate::store::rust_side::{self, Ground, Outcome};
 use crate::store::sides::refused_in_rust;
 use library::store::{Added, Lent, Opening};
 use reference::Store;
@@ -179,6 +179,14 @@ impl ProbeSides {
         };
         if self.met.contains(&PAST_A_FIFTH) {
             return Ok(());
+        }
+        match rust_side::ground(of_store, got.value(), coverage) {
+            Ground::Compared => {}
+            Ground::NotAsked => {
+                self.rust = Some(rust);
+                return Ok(());
+            }
+            Ground::Left => return Ok(()),
         }
         if self.met.contains(&"a slot's count reached 0") {
             self.slots = false;

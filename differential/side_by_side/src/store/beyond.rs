@@ -13,7 +13,7 @@ use crate::coverage::Coverage;
 use library::store::{Lent, Opening};
 use random::Random;
 
-fn any_bounds(random: &mut Random) -> Bounds {
+pub fn any_bounds(random: &mut Random) -> Bounds {
     match random.below(200) {
         0 => LARGEST,
         1..=10 => MIDDLING,

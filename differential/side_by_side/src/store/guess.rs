@@ -68,7 +68,7 @@ impl Taste {
         }
     }
 
-    fn float(self, random: &mut Random) -> u32 {
+    pub fn float(self, random: &mut Random) -> u32 {
         self.allowed(any_float(self.floats, random))
     }
 

@@ -1,0 +1,5 @@
+pub mod Cases
+pub mod Listed
+pub mod Page
+pub mod PageLaws
+pub mod Writing
