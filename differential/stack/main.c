@@ -50,7 +50,7 @@ static void hold_held(void) { number = ps_store_hold_held(&h, held, CAPACITY - 1
 static const struct ps_shape product = {DIMENSIONS, DIMENSIONS / PS_PROBES, CAPACITY, CAPACITY, 1, 0, 1};
 static const uint8_t kinds[PS_PROBES] = {PS_MEASURED, PS_ESTIMATED, PS_MEASURED, PS_MEASURED};
 static uint32_t tallies[PS_PROBES];
-static void probes_open(void) { number = ps_store_probes_open(&p, &product); }
+static void probes_open(void) { number = ps_store_probes_open(&p, &product, PS_REASON_CLASSES, PS_CLASS_TEXT_BYTES); }
 static void probes_set(void) { number = ps_store_probes_set(&p, kinds, PS_PROBES, row, PS_PROBES, 3, &added); }
 static void probes_tallies(void) { number = ps_store_probes_tallies(&p, tallies, PS_PROBES); }
 
