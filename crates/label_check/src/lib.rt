@@ -3,7 +3,7 @@
 ghost use mathlib.Core.Bool.{true};
 ghost use mathlib.Core.Path.{_≡_};
 ghost use Rattle.labels.specs.Labels.{tablesLent, labelsWell, labelsOk};
-ghost use Rattle.labels.specs.Forms.{entered, FiguresOf};
+ghost use Rattle.labels.specs.Forms.{entered, FreeOf};
 
 mod label_pass;
 mod slot_pass;
@@ -60,7 +60,7 @@ fn label_half_well_formed(
     attribute_starts: &[u16],
     attribute_ends: &[u16],
 ) -> LabelsChecked
-    ensures { λ r. ⌜ (r .ok ≡ labelsWell (now (classes .entry)) capacity (entered managers labels «label_attributes» «label_count» «label_starts» «label_ends» attributes «attribute_count» «attribute_starts» «attribute_ends»)) × ((r .ok ≡ true → FiguresOf (r .free) (entered managers labels «label_attributes» «label_count» «label_starts» «label_ends» attributes «attribute_count» «attribute_starts» «attribute_ends»))) ⌝ }
+    ensures { λ r. ⌜ (r .ok ≡ labelsWell (now (classes .entry)) capacity (entered managers labels «label_attributes» «label_count» «label_starts» «label_ends» attributes «attribute_count» «attribute_starts» «attribute_ends»)) × ((r .ok ≡ true → FreeOf (r .free) (entered managers labels «label_attributes» «label_count» «label_starts» «label_ends» attributes «attribute_count» «attribute_starts» «attribute_ends»))) ⌝ }
 {
     let label_manager = managers.label_manager;
     let attribute_manager = managers.attribute_manager;
@@ -156,7 +156,7 @@ pub fn labels_well_formed(
     attribute_starts: &[u16],
     attribute_ends: &[u16],
 ) -> LabelsChecked
-    ensures { λ r. ⌜ (r .ok ≡ labelsOk «store_labels» (now (classes .entry)) capacity (entered managers labels «label_attributes» «label_count» «label_starts» «label_ends» attributes «attribute_count» «attribute_starts» «attribute_ends»)) × ((r .ok ≡ true → «store_labels» ≡ true → FiguresOf (r .free) (entered managers labels «label_attributes» «label_count» «label_starts» «label_ends» attributes «attribute_count» «attribute_starts» «attribute_ends»))) ⌝ }
+    ensures { λ r. ⌜ (r .ok ≡ labelsOk «store_labels» (now (classes .entry)) capacity (entered managers labels «label_attributes» «label_count» «label_starts» «label_ends» attributes «attribute_count» «attribute_starts» «attribute_ends»)) × ((r .ok ≡ true → «store_labels» ≡ true → FreeOf (r .free) (entered managers labels «label_attributes» «label_count» «label_starts» «label_ends» attributes «attribute_count» «attribute_starts» «attribute_ends»))) ⌝ }
 {
     if store_labels {
         return label_half_well_formed(

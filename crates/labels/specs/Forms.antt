@@ -47,8 +47,8 @@ slotOutcome slot attributes table = record { slot = slot; attributes = attribute
 abbrev pub labelOutcome : LabelIndex → Labels → LabelTaken
 labelOutcome label after = record { label = label .0; after = after }
 
--- the figures are those of the two tables
-pub record FiguresOf (free : LabelsFree) (l : Labels) : Type 0 where
+-- so many are free in the two tables
+pub record FreeOf (free : LabelsFree) (l : Labels) : Type 0 where
   pub labels : free .labels ≡ freeIndices (l .labelTable)
   pub slots : free .slots ≡ freeIndices (l .attributeTable)
 

@@ -6,7 +6,7 @@ ghost use Prim.Native.Nat.{_<_, _≤_};
 ghost use lib.ListN.{length};
 ghost use Rattle.labels.specs.Counted.{counted};
 ghost use Rattle.labels.specs.Labels.{classSlot, slotTaken, labelTaken, labelsWell};
-ghost use Rattle.labels.specs.Forms.{FiguresOf, SlotReady, slotOutcome, held, entered, left, labelOutcome};
+ghost use Rattle.labels.specs.Forms.{FreeOf, SlotReady, slotOutcome, held, entered, left, labelOutcome};
 use crate::LabelManagers;
 use crate::LabelsFree;
 use crate::TakenLabel;
@@ -87,7 +87,7 @@ pub fn take_label(
     code: usize,
     free: LabelsFree,
 ) -> TakenLabel
-    requires { ⌜ (labelsWell (now classes) capacity (held managers labels «label_attributes» «label_count» «label_starts» «label_ends» attributes «attribute_count» «attribute_starts» «attribute_ends») ≡ true) × ((code ≤ 23) × ((0 < managers .«label_manager» .last_in_use) × FiguresOf free (held managers labels «label_attributes» «label_count» «label_starts» «label_ends» attributes «attribute_count» «attribute_starts» «attribute_ends»))) ⌝ }
+    requires { ⌜ (labelsWell (now classes) capacity (held managers labels «label_attributes» «label_count» «label_starts» «label_ends» attributes «attribute_count» «attribute_starts» «attribute_ends») ≡ true) × ((code ≤ 23) × ((0 < managers .«label_manager» .last_in_use) × FreeOf free (held managers labels «label_attributes» «label_count» «label_starts» «label_ends» attributes «attribute_count» «attribute_starts» «attribute_ends»))) ⌝ }
     ensures { λ r. ⌜ labelOutcome (r .label) (left (r .managers) labels «label_attributes» «label_count» «label_starts» «label_ends» attributes «attribute_count» «attribute_starts» «attribute_ends») ≡ labelTaken (now (classes .entry)) capacity (entered managers labels «label_attributes» «label_count» «label_starts» «label_ends» attributes «attribute_count» «attribute_starts» «attribute_ends») code ⌝ }
 {
     let class = class_of(classes, code);
