@@ -1,6 +1,13 @@
 -- What the check counts of a store that is well-formed.
-use mathlib.Core.Bool.{true}
-use mathlib.Core.Path.{_≡_}
+use Prim.Native.Nat.{ℕ, zero, suc}
+use native.Mathlib.Omega.{arith}
+use mathlib.Core.Bool.{true, not}
+use mathlib.Core.List.{List}
+use mathlib.Core.Path.{_≡_, refl, ap}
+use lib.ListN.{getD}
+use lib.Dec.{ltb, eqb}
+use borrow.Author.Tests.{lt-ltb, ne-eqb}
+use Rattle.terms.specs.Below.{one, countBelow, sum-same}
 use Rattle.labels.specs.Forms.{FreeOf}
 use Rattle.store_definitions.specs.Memory.{PointStore}
 use Rattle.store_definitions.specs.Parts.{tableLength, labelHalf}
@@ -11,3 +18,13 @@ use Rattle.store_check.specs.Entries.{countsLive}
 pub record FiguresOf {E : Type 0} (f : Figures) (p : PointStore E) : Type 0 where
   pub live-is : f .live ≡ countsLive (tableLength (p .header)) (p .memory .referenceCount)
   pub labels-free : p .header .«store_labels» ≡ true → FreeOf (f .free) (labelHalf p)
+
+above-zero : (n : ℕ) → not (eqb n 0) ≡ ltb 0 n
+above-zero zero = refl
+above-zero (suc n) = rw (ne-eqb (suc n) 0 (λ e. omega arith), lt-ltb 0 (suc n) (omega arith))
+
+-- the definitions' own count of the live
+pub counts-live : (n : ℕ) (counts : List ℕ) → countsLive n counts ≡ countBelow n (λ i. ltb 0 (getD counts i 0))
+unfolding countsLive countBelow
+counts-live n counts =
+    sum-same n (λ i. one (not (eqb (getD counts i 0) 0))) (λ i. one (ltb 0 (getD counts i 0))) (λ i h. ap one (above-zero (getD counts i 0)))
