@@ -57,7 +57,7 @@ module _ (c : ℕ) (t : Counted) (w : WellCounted c t) where
 -- ---- a table before an index of it is taken: as it is, or grown where no index is free
 
 -- what is 0 from n up to d adds nothing there
-sum-grown : (n d : ℕ) (f : ℕ → ℕ) → ((i : ℕ) → n ≤ i → i < d → f i ≡ 0) → n ≤ d → sumBelow d f ≡ sumBelow n f
+pub sum-grown : (n d : ℕ) (f : ℕ → ℕ) → ((i : ℕ) → n ≤ i → i < d → f i ≡ 0) → n ≤ d → sumBelow d f ≡ sumBelow n f
 unfolding sumBelow
 sum-grown n zero f z h = let e : n ≡ 0 = omega arith in rw e
 sum-grown n (suc d) f z h =
