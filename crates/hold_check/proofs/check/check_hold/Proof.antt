@@ -18,15 +18,15 @@ store-well-requires c κs =
 
 list-well-requires : tie.Need-list-well-requires
 list-well-requires c κs =
-    let a = c .before .before .before .before .before .before .before .before .before .before .before .before .before .before .before .before .before .before .before .before .before .before .args in
+    let a = c .before .before .before .before .before .before .before .before .before .before .before .before .before .before .before .before .before .before .before .before .before .before .before .args in
     let h = pointHold (a .h) (holdHeld (a .store) (a .last-known-shingle) (a .reference-count) (a .location) (a .index-starts) (a .index-ends) (a .labels) (a .label-attributes) (a .label-count) (a .label-starts) (a .label-ends) (a .attributes) (a .attribute-count) (a .attribute-starts) (a .attribute-ends) (a .held-indices) (a .held-labels)) in
-    (c .before .store-well .ensures .1 (c .if2 .taken) .1, list-ready h (sym (c .before .store-well .ensures .0 ∙ well-formed-lengths (a .h .store) (h .memory .store)) ∙ c .if2 .taken) (sym (c .before .before .before .record-holds .ensures) ∙ c .before .before .if1 .taken))
+    (c .before .before .store-well .ensures .1 (c .before .if2 .taken) .1, list-ready h (sym (c .before .before .store-well .ensures .0 ∙ well-formed-lengths (a .h .store) (h .memory .store)) ∙ c .before .if2 .taken) (sym (c .before .before .before .before .record-holds .ensures) ∙ c .before .before .before .if1 .taken))
 
 returns : tie.Need-returns
 returns c =
-    let a = c .before .before .before .before .before .before .before .before .before .before .before .before .before .before .before .before .before .before .before .before .before .before .before .args in
+    let a = c .before .before .before .before .before .before .before .before .before .before .before .before .before .before .before .before .before .before .before .before .before .before .before .before .args in
     let h = pointHold (a .h) (holdHeld (a .store) (a .last-known-shingle) (a .reference-count) (a .location) (a .index-starts) (a .index-ends) (a .labels) (a .label-attributes) (a .label-count) (a .label-starts) (a .label-ends) (a .attributes) (a .attribute-count) (a .attribute-starts) (a .attribute-ends) (a .held-indices) (a .held-labels)) in
-    c .list-well .ensures ∙ hold-listed h (sym (c .before .before .store-well .ensures .0 ∙ well-formed-lengths (a .h .store) (h .memory .store)) ∙ c .before .if2 .taken) (sym (c .before .before .before .before .record-holds .ensures) ∙ c .before .before .before .if1 .taken) (c .before .before .store-well .result .live) (c .before .before .store-well .ensures .1 (c .before .if2 .taken) .0)
+    c .list-well .ensures ∙ hold-listed h (sym (c .before .before .before .store-well .ensures .0 ∙ well-formed-lengths (a .h .store) (h .memory .store)) ∙ c .before .before .if2 .taken) (sym (c .before .before .before .before .before .record-holds .ensures) ∙ c .before .before .before .before .if1 .taken) (c .before .before .before .store-well .result .live) (c .before .before .before .store-well .ensures .1 (c .before .before .if2 .taken) .0)
 
 returns-2 : tie.Need-returns-2
 returns-2 c =
