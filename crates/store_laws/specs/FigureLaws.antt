@@ -3,7 +3,7 @@
 use Prim.Native.Nat.{ℕ, zero, suc, _+_, _-_, _≤_, _<_}
 use native.Mathlib.Decide.{decLt}
 use native.Mathlib.Omega.{arith}
-use mathlib.Core.Bool.{Bool, true, false, cond}
+use mathlib.Core.Bool.{Bool, true, false, cond, not}
 use mathlib.Core.List.{List}
 use mathlib.Core.Path.{_≡_, refl, sym, ap, _∙_}
 use lib.ListN.{length, getD}
@@ -31,25 +31,26 @@ use Rattle.store_laws.specs.AddingLaws.{add-sound}
 -- ---- a table
 
 -- each number passes one of two tests
-one-of-two : (n : ℕ) (p q : ℕ → Bool) → ((i : ℕ) → i < n → one (p i) + one (q i) ≡ 1) → countBelow n p + countBelow n q ≡ n
+pub one-of-two : (n : ℕ) (p q : ℕ → Bool) → ((i : ℕ) → i < n → p i ≡ not (q i)) → countBelow n p + countBelow n q ≡ n
 unfolding countBelow sumBelow
 one-of-two zero p q h = refl
-one-of-two (suc n) p q h = omega (arith, one-of-two n p q (λ i l. h i (omega arith)), h n (omega arith))
+one-of-two (suc n) p q h =
+    omega (arith, one-of-two n p q (λ i l. h i (omega arith)), ap one (h n (omega arith)), not-one (q n))
+  where
+    not-one : (b : Bool) → one (not b) + one b ≡ 1
+    not-one true = refl
+    not-one false = refl
 
-unused-or-live : (n : ℕ) → one (eqb n 0) + one (ltb 0 n) ≡ 1
-unused-or-live n =
-    elim (decLt 0 n) [
-      | yes l ↦ rw (ne-eqb n 0 (λ e. omega arith), lt-ltb 0 n l)
-      | no g ↦ rw (eq-eqb n 0 (omega arith), le-ltb 0 n (omega arith))
-    ]
+pub above-zero : (n : ℕ) → ltb 0 n ≡ not (eqb n 0)
+above-zero zero = refl
+above-zero (suc n) = rw (ne-eqb (suc n) 0 (λ e. omega arith), lt-ltb 0 (suc n) (omega arith))
 
 module _ (c : ℕ) (t : Counted) (w : WellCounted c t) where
   pub free-and-live : freeIndices t + liveNumber c t ≡ c
   unfolding freeNumber liveNumber
   free-and-live =
-      rw (w .whole)
-      (one-of-two c (free t) (λ i. ltb 0 (countAt t i))
-      (λ i l. rw (w .free-is i l) (unused-or-live (countAt t i))))
+      let both : liveNumber c t + freeIndices t ≡ c = rw (w .whole) (one-of-two c (λ i. ltb 0 (countAt t i)) (free t) (λ i l. above-zero (countAt t i) ∙ ap not (sym (w .free-is i l)))) in
+      omega arith
 
   pub free-is-rest : freeIndices t ≡ c - liveNumber c t
   free-is-rest = omega (arith, free-and-live)
