@@ -29,7 +29,7 @@ manager-out-requires c κs =
     let i = c .before .before .before .before .before .before .before .before .before .manager-in in
     let g = c .before .before .before .before .before .before .before .get in
     accepted-long (λ m. getSpec m (a .starts .now) (a .ends .now))
-    (a .words .now) (i .result) (g .result .manager) (g .last .1 .0) (a .ends .now) (gotMeans (g .result .answer)) (given (c .before .before .answer2 .given .0 .0 .index))
+    (a .words .now) (i .result) (g .result .manager) (g .last .1 .0) (a .ends .now) (gotMeans (g .result .answer)) (given (c .before .before .answer2 .given .0 .0 .index) (c .before .before .answer2 .given .0 .0 .free))
     (get-refuses (a .starts .now) (a .ends .now)) (i .ensures) (g .ensures)
     (ap gotMeans (c .before .before .answer2 .given .1)) refl
 
