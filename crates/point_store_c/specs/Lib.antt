@@ -13,4 +13,5 @@ pub mod Naming
 pub mod ProbesRecordLaws
 pub mod ProbesRecords
 pub mod RecordLaws
+pub mod RecordedLaws
 pub mod Records
