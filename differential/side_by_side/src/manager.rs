@@ -113,7 +113,7 @@ fn made_by_library(call: Call, m: &mut Memory) -> Returned {
     if value != 0 && mutant::is("harness-writes-the-answer-of-a-refused-call") {
         answer = 0;
     }
-    if value != 0 && mutant::is("harness-writes-the-figure-of-a-refused-get") {
+    if call == Call::Get && value != 0 && mutant::is("harness-writes-the-figure-of-a-refused-get") {
         free_indices = 0;
     }
     Returned {
