@@ -1,43 +1,31 @@
 // Whether a table of classes is allowed.
 ghost use mathlib.Core.Path.{_≡_};
-ghost use Rattle.terms.specs.Below.{everyBelow};
+ghost use Prim.Native.Nat.{_^_, _≤_};
 ghost use Rattle.class_table.specs.Table.{tableAllowed};
-ghost use Rattle.class_table.specs.Marks.{marksFollow};
 
-// Whether no class is missing before one that occurs.
-fn marks_follow(marks: &[u8; 10]) -> bool
-    ensures { λ r. ⌜ r ≡ everyBelow 9 (marksFollow (now (marks .entry))) ⌝ }
+// The bit of a class.
+fn bit(class: u8) -> u32
+    ensures { λ r. ⌜ (class ≤ 9 → r ≡ 2 ^ class) ⌝ }
 {
-    let mut class = 0;
-    while class < 9 {
-        let next = class + 1;
-        if marks[class] < marks[next] {
-            return false;
-        }
-        class = next;
-    }
-    true
+    1u32 << ((class % 32) as u32)
 }
 
-fn wide(x: u8) -> usize
-    ensures { λ r. ⌜ r ≡ x ⌝ }
-{
-    x as usize
-}
-
-// Every class that occurs is marked, and no mark may be missing before another.
+// Every class that occurs is a bit of a mask, without a branch. No bit is missing before another exactly where the mask and one more
+// have no bit in common.
 pub fn table_allowed(classes: [u8; 24]) -> bool
     ensures { λ r. ⌜ r ≡ tableAllowed classes ⌝ }
 {
-    let mut marks = [0u8; 10];
+    let mut mask: u32 = 0;
+    let mut high = false;
     let mut code = 0;
     while code < 24 {
-        let class = wide(classes[code]);
-        if 9 < class {
-            return false;
-        }
-        marks[class] = 1;
+        let class = classes[code];
+        high = high | (9 < class);
+        mask = mask | bit(class);
         code += 1;
     }
-    marks_follow(&marks)
+    if high {
+        return false;
+    }
+    (mask & (mask + 1)) == 0
 }

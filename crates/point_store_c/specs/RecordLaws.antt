@@ -6,7 +6,7 @@ use mathlib.Core.List.{List, [], _∷_, _++_}
 use mathlib.Core.Path.{_≡_, refl, sym, ap, _∙_}
 use lib.Dec.{leb, ltb, eqb}
 use lib.ListN.{length, getD, take, drop, length-append, List·getD-append}
-use lib.Seq.{sets, sets-eq, set-getD, take-at, getD-append-add}
+use lib.Seq.{sets, sets-eq, length-sets, set-getD, take-at, getD-append-add}
 use borrow.Author.Tests.{le-leb, lt-leb, lt-ltb, leb-true, ltb-true}
 use mir.Val.{boolByte}
 use Rattle.terms.specs.Below.{one, both}
@@ -18,7 +18,7 @@ use Rattle.store_definitions.specs.Bounds.{boundsHold}
 use Rattle.store_definitions.specs.Opening.{noRecord}
 use Rattle.store_definitions.specs.WellFormed.{wellFormed}
 use Rattle.point_store_c.specs.ExportedLaws.{cast-one}
-use Rattle.point_store_c.specs.Records.{headWords, storeWords, storeOut, legalRecord, readWith, storeRead, storeIn, recorded}
+use Rattle.point_store_c.specs.Records.{headWords, storeWords, storeOut, legalRecord, readWith, storeRead, storeIn, recorded, recordedWhole}
 
 -- a store whose sequence number and classes have their sizes, as every store of the code's has
 pub record Sized (s : Store) : Type 0 where
@@ -123,13 +123,16 @@ module _ (words : List ℕ) where
   unfolding storeIn
   illegal-read e = rw e
 
-  pub legal-recorded : (s : Store) → legalRecord words ≡ true → storeOut words s ≡ recorded words s
+  pub head-recorded : (s : Store) → (leb 39 (length words) && ltb 0 (s .capacity)) ≡ true → sets words 0 (headWords s) ≡ recorded words s
   unfolding recorded
-  legal-recorded s e = rw e
+  head-recorded s e = rw e
 
-  pub illegal-recorded : (s : Store) → legalRecord words ≡ false → words ≡ recorded words s
+  pub long-enough : (s : Store) → (leb 39 (length words) && ltb 0 (s .capacity)) ≡ true → 39 ≤ length words
+  long-enough s e = leb-true 39 (length words) (both (leb 39 (length words)) (ltb 0 (s .capacity)) e .0)
+
+  pub left-recorded : (s : Store) → (leb 39 (length words) && ltb 0 (s .capacity)) ≡ false → words ≡ recorded words s
   unfolding recorded
-  illegal-recorded s e = rw e
+  left-recorded s e = rw e
 
 flag-word : (n : ℕ) → n < 2 → one (eqb n 1) ≡ n
 flag-word zero l = refl
@@ -151,14 +154,50 @@ out-in words e =
 
 -- a call that leaves the store leaves the record
 pub record-kept : (words : List ℕ) → recorded words (storeIn words) ≡ words
-unfolding recorded
+unfolding recorded storeIn
 record-kept words = go (legalRecord words) refl
   where
-    go : (b : Bool) → legalRecord words ≡ b → cond b (storeOut words (storeIn words)) words ≡ words
-    go true e = out-in words e
-    go false e = refl
+    written : (b : Bool) → Legal words → cond b (sets words 0 (headWords (storeRead words))) words ≡ words
+    written true l = head-back words l
+    written false l = refl
+
+    none : (b : Bool) → cond (b && false) (sets words 0 (headWords noRecord)) words ≡ words
+    none true = refl
+    none false = refl
+
+    go : (b : Bool) → legalRecord words ≡ b → recorded words (storeIn words) ≡ words
+    go true e = rw e (written (leb 39 (length words) && ltb 0 (getD words 2 0)) (legal words e))
+    go false e = rw e (none (leb 39 (length words)))
 
 -- an illegal record holds an ill-formed store, which every call refuses with 1
 pub illegal-ill-formed : (words : List ℕ) (m : Memory ℕ) → legalRecord words ≡ false → wellFormed (pointStore (storeIn words) m) ≡ false
 unfolding storeIn wellFormed boundsHold
 illegal-ill-formed words m e = rw e refl
+
+-- Writing the words before the classes is writing the whole store, of every store that a call leaves: it has the classes and the
+-- capacity of the one that was read, and one of capacity 0 is left as it was
+module _ (words : List ℕ) (s : Store) (classes-same : s .classes ≡ storeIn words .classes) (capacity-same : s .capacity ≡ storeIn words .capacity) (none-left : storeIn words .capacity ≡ 0 → s ≡ storeIn words) where
+  head-words : 39 ≤ length words → sets words 0 (headWords s) ≡ headWords s ++ drop 15 words
+  head-words l = sets-eq (headWords s) words 0 (omega arith)
+
+  whole-written : legalRecord words ≡ true → sets words 0 (headWords s) ≡ storeOut words s
+  whole-written e =
+      let l = legal words e in
+      let same : s .classes ≡ take 24 (drop 15 (sets words 0 (headWords s))) = classes-same ∙ ap (λ (t : Store). t .classes) (sym (legal-read words (take 24 (drop 15 words)) refl e)) ∙ ap (λ (w : List ℕ). take 24 (drop 15 w)) (sym (head-words (l .long))) in
+      sym (read-written 15 (sets words 0 (headWords s)) (rw (length-sets words 0 (headWords s)) (l .long)))
+      ∙ ap (sets (sets words 0 (headWords s)) 15) (sym same)
+      ∙ classes-after words (sets words 0 (headWords s)) s refl
+
+  pub recorded-whole : recorded words s ≡ recordedWhole words s
+  unfolding recordedWhole
+  recorded-whole = go (legalRecord words) refl (storeIn words .capacity) refl
+    where
+      kept : storeIn words .capacity ≡ 0 → recorded words s ≡ words
+      kept z = ap (recorded words) (none-left z) ∙ record-kept words
+
+      go : (b : Bool) → legalRecord words ≡ b → (n : ℕ) → storeIn words .capacity ≡ n → recorded words s ≡ recordedWhole words s
+      go false e n q = rw e (kept (ap (λ (t : Store). t .capacity) (sym (illegal-read words e))))
+      go true e zero q = rw e (kept q ∙ sym (out-in words e) ∙ ap (storeOut words) (sym (none-left q)))
+      go true e (suc n) q =
+          let some : (leb 39 (length words) && ltb 0 (s .capacity)) ≡ true = rw (le-leb 39 (length words) (legal words e .long), lt-ltb 0 (s .capacity) (omega (arith, capacity-same, q))) in
+          rw e (sym (head-recorded words s some) ∙ whole-written e)

@@ -106,11 +106,12 @@ pub fn record_write(words: &mut [u64], s: Store)
     classes_out(words, CLASS_WORDS, classes);
 }
 
-// An illegal record is left as it was.
+// The words before the classes, since no call but opening changes a class. An illegal record was read as one of capacity 0, which
+// every call leaves, and is left as it was.
 pub fn store_out(words: &mut [u64], s: Store)
     ensures { λ _. ⌜ now (words .exit) ≡ recorded (now (words .entry)) s ⌝ }
 {
-    if record_legal(words) {
-        record_write(words, s);
+    if (RECORD_WORDS <= words.len()) & (0 < s.capacity) {
+        head_write(words, s);
     }
 }

@@ -42,7 +42,6 @@ use Rattle.store_laws.specs.AddDecisionLaws.{Kept, waits-on, keeps-on}
 use Rattle.store_laws.specs.AddingLaws.{can-grow}
 use Rattle.store_laws.specs.FigureLaws.{free-and-live, grown-figure}
 use Rattle.store_check.specs.declared.Figures.{Figures}
-use Rattle.store_check.specs.CheckLaws.{elementless}
 use Rattle.store_check.specs.Figures.{FiguresOf, counts-live}
 use Rattle.store_add.specs.declared.AddDecision.{AddDecision}
 use Rattle.store_add.specs.declared.AddDecision.the-variants as atDecision
@@ -329,7 +328,3 @@ module _ (d : AddDecision) (p : PointStore ℕ) (point : List ℕ) (code : ℕ) 
 pub add-ill : (p : PointStore ℕ) (point : List ℕ) (code : ℕ) → wellFormed p ≡ false → outcome (refused 1) p ≡ addSpec wordsEqual 0 p point code
 unfolding addSpec
 add-ill p point code e = rw (asked-ill p point code e)
-
--- the check sees of the elements only how many there are
-pub figures-filled : (s : Store) (m : Memory ℕ) (f : Figures) → FiguresOf f (pointStore s (elementless m)) → FiguresOf f (pointStore s m)
-figures-filled s m f figures = record { live-is = figures .live-is; labels-free = figures .labels-free }

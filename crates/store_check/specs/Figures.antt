@@ -9,10 +9,12 @@ use lib.Dec.{ltb, eqb}
 use borrow.Author.Tests.{lt-ltb, ne-eqb}
 use Rattle.terms.specs.Below.{one, countBelow, sum-same}
 use Rattle.labels.specs.Forms.{FreeOf}
-use Rattle.store_definitions.specs.Memory.{PointStore}
+use Rattle.store_definitions.specs.declared.Store.{Store}
+use Rattle.store_definitions.specs.Memory.{Memory, PointStore, pointStore}
 use Rattle.store_definitions.specs.Parts.{tableLength, labelHalf}
 use Rattle.store_check.specs.declared.Figures.{Figures}
 use Rattle.store_check.specs.Entries.{countsLive}
+use Rattle.store_check.specs.CheckLaws.{elementless}
 
 -- so many points are live and, with labels on, so many label indices and slots are free
 pub record FiguresOf {E : Type 0} (f : Figures) (p : PointStore E) : Type 0 where
@@ -28,3 +30,7 @@ pub counts-live : (n : ℕ) (counts : List ℕ) → countsLive n counts ≡ coun
 unfolding countsLive countBelow
 counts-live n counts =
     sum-same n (λ i. one (not (eqb (getD counts i 0) 0))) (λ i. one (ltb 0 (getD counts i 0))) (λ i h. ap one (above-zero (getD counts i 0)))
+
+-- the check sees of the elements only how many there are
+pub figures-filled : {E : Type 0} (s : Store) (m : Memory E) (f : Figures) → FiguresOf f (pointStore s (elementless m)) → FiguresOf f (pointStore s m)
+figures-filled s m f figures = record { live-is = figures .live-is; labels-free = figures .labels-free }

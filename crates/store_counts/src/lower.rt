@@ -49,7 +49,8 @@ fn lower_point(
     manager
 }
 
-// One count less, for callers that have checked the store and the call. Of the elements only the lengths are known.
+// One count less, for callers that have checked the store and the call. Of the elements only the lengths are known. The record is
+// built field by field: a copy of it with one field set loads two words at once that were just stored one by one, and waits for them.
 pub fn dec_accepted(
     s: Store,
     floats: usize,
@@ -73,9 +74,8 @@ pub fn dec_accepted(
     requires { ⌜ (wellFormed (pointStore s (tables floats window «reference_count» location «index_starts» «index_ends» labels «label_attributes» «label_count» «label_starts» «label_ends» attributes «attribute_count» «attribute_starts» «attribute_ends»)) ≡ true) × (decTest (pointStore s (tables floats window «reference_count» location «index_starts» «index_ends» labels «label_attributes» «label_count» «label_starts» «label_ends» attributes «attribute_count» «attribute_starts» «attribute_ends»)) (index .0) (label .0) ≡ go) ⌝ }
     ensures { λ r. ⌜ pointStore r (tablesAtExit floats window «reference_count» location «index_starts» «index_ends» labels «label_attributes» «label_count» «label_starts» «label_ends» attributes «attribute_count» «attribute_starts» «attribute_ends») ≡ decremented (pointStore s (tablesAtEntry floats window «reference_count» location «index_starts» «index_ends» labels «label_attributes» «label_count» «label_starts» «label_ends» attributes «attribute_count» «attribute_starts» «attribute_ends»)) (index .0) (label .0) ⌝ }
 {
-    let mut after = s;
     let index_manager = s.index_manager;
-    after.index_manager = lower_point(
+    let index_after = lower_point(
         index_manager,
         reference_count,
         location,
@@ -105,12 +105,39 @@ pub fn dec_accepted(
             attribute_ends,
             label,
         );
-        let label_manager = lowered.label_manager;
-        let attribute_manager = lowered.attribute_manager;
-        after.label_manager = label_manager;
-        after.attribute_manager = attribute_manager;
+        let label_after = lowered.label_manager;
+        let attribute_after = lowered.attribute_manager;
+        return Store {
+            dimensions: s.dimensions,
+            shingle_size: s.shingle_size,
+            capacity: s.capacity,
+            internal_shingling: s.internal_shingling,
+            internal_rotation: s.internal_rotation,
+            store_labels: s.store_labels,
+            store_length: s.store_length,
+            start_free_region: s.start_free_region,
+            next_sequence_index: s.next_sequence_index,
+            index_manager: index_after,
+            label_manager: label_after,
+            attribute_manager: attribute_after,
+            classes: s.classes,
+        };
     }
-    after
+    Store {
+        dimensions: s.dimensions,
+        shingle_size: s.shingle_size,
+        capacity: s.capacity,
+        internal_shingling: s.internal_shingling,
+        internal_rotation: s.internal_rotation,
+        store_labels: s.store_labels,
+        store_length: s.store_length,
+        start_free_region: s.start_free_region,
+        next_sequence_index: s.next_sequence_index,
+        index_manager: index_after,
+        label_manager: s.label_manager,
+        attribute_manager: s.attribute_manager,
+        classes: s.classes,
+    }
 }
 
 // The same for callers that have checked the store.

@@ -4,7 +4,8 @@ use mathlib.Core.Path.{refl, sym, _∙_}
 use Rattle.store_definitions.specs.Lent.{held}
 use Rattle.store_definitions.specs.Memory.{Memory, pointStore}
 use Rattle.store_check.specs.CheckLaws.{well-formed-lengths}
-use Rattle.store_add.proofs.ActLaws.{add-ill, figures-filled}
+use Rattle.store_check.specs.Figures.{figures-filled}
+use Rattle.store_add.proofs.ActLaws.{add-ill}
 use borrow.Author.Needs.{needs}
 use Rattle.store_add.proofs.add.Statement.{statement}
 use Rattle.store_add.proofs.add.Tie as tie

@@ -25,9 +25,9 @@ returns : tie.Need-returns
 returns c =
     let a = c .before .before .before .before .before .before .before .before .before .before .before .before .before .before .before .before .before .before .before .before .before .before .before .before .args in
     let q = pointStore (a .t1) (tables (a .floats) (a .window) (a .reference-count) (a .location) (a .index-starts) (a .index-ends) (a .labels) (a .label-attributes) (a .label-count) (a .label-starts) (a .label-ends) (a .attributes) (a .attribute-count) (a .attribute-starts) (a .attribute-ends)) in (
-      c .before .labels-well-formed .ensures
+      c .before .labels-well-formed .ensures .0
           ∙ labels-decide q (a .floats) (a .window) (length-replicate {A = Unit {0}} (a .floats) tt) (length-replicate {A = Unit {0}} (a .window) tt) (λ i. omega (arith, c .before .before .before .before .before .before .before .before .before .before .before .before .before .before .before .before .before .before .before .before .before .before .before .shared-slice-known .given i)) (sym (c .before .before .before .before .before .before .before .before .before .record-well .ensures) ∙ c .before .before .before .before .before .before .before .before .if1 .taken) (sym (c .before .before .before .before .before .before .before .points-listed .ensures .0) ∙ c .before .before .before .before .before .before .if2 .taken),
-      λ e. c .before .before .before .before .before .before .before .points-listed .ensures .1 (c .before .before .before .before .before .before .if2 .taken),
+      λ e. (record { live-is = c .before .before .before .before .before .before .before .points-listed .ensures .1 (c .before .before .before .before .before .before .if2 .taken) .0; labels-free = λ on. c .before .labels-well-formed .ensures .1 e on }, c .before .before .before .before .before .before .before .points-listed .ensures .1 (c .before .before .before .before .before .before .if2 .taken) .1),
     )
 
 returns-2 : tie.Need-returns-2
