@@ -183,7 +183,15 @@ pub extern "C" fn ps_hold_add(
     let after = result.hold;
     let answer = result.answer;
     hold_out(words, after);
-    added_out(answer, kept, index, label_index, joined, place, free_indices)
+    added_out(
+        answer,
+        kept,
+        index,
+        label_index,
+        joined,
+        place,
+        free_indices,
+    )
 }
 
 // The held point indices, oldest first.

@@ -181,7 +181,15 @@ pub extern "C" fn ps_probes_set(
     let after = result.probes;
     let answer = result.answer;
     probes_out(words, after);
-    added_out(answer, kept, index, label_index, joined, place, free_indices)
+    added_out(
+        answer,
+        kept,
+        index,
+        label_index,
+        joined,
+        place,
+        free_indices,
+    )
 }
 
 // How many estimates each probe has had.

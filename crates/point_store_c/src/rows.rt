@@ -67,7 +67,15 @@ pub extern "C" fn ps_add(
     let after = result.store;
     let answer = result.answer;
     store_out(words, after);
-    added_out(answer, kept, index, label_index, joined, place, free_indices)
+    added_out(
+        answer,
+        kept,
+        index,
+        label_index,
+        joined,
+        place,
+        free_indices,
+    )
 }
 
 #[no_mangle]
