@@ -61,7 +61,7 @@ returns c =
     let e : c .before .loop .i ≡ c .before .before .args .to = omega arith in rw e at (c .before .loop .inv .1)
 
 pub places-fall-spec : {M : Type 1} → statement M
-places-fall-spec = 
+places-fall-spec =
     tie.close
     (tie.spec
     Inv-loop

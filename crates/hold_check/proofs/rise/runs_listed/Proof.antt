@@ -54,7 +54,7 @@ returns c =
     let e : c .before .loop .k ≡ c .before .before .before .args .held = omega arith in rw e at (c .before .loop .inv .1)
 
 pub runs-listed-spec : {M : Type 1} → statement M
-runs-listed-spec = 
+runs-listed-spec =
     tie.close
     (tie.spec
     Inv-loop

@@ -32,8 +32,7 @@ returns c =
     let a = c .before .before .before .before .before .before .before .before .before .before .before .before .before .before .before .before .before .before .before .before .before .before .before .before .before .before .before .args in
     let q = pointStore (a .t1) (tables (a .floats) (a .window) (a .reference-count) (a .location) (a .index-starts) (a .index-ends) (a .labels) (a .label-attributes) (a .label-count) (a .label-starts) (a .label-ends) (a .attributes) (a .attribute-count) (a .attribute-starts) (a .attribute-ends)) in
     let tested =
-    record-tested (a .t1) (a .floats) (a .window) (length (a .reference-count .now)) (length (a .location .now)) (length (a .index-starts .now)) (length (a .index-ends .now)) (c .before .before .before .before .before .before .before .before .before .before .before .table-allowed .result) (c .before .before .before .before .before .before .before .before .before .before .numbers-well .result) (c .before .before .before .before .before .before .before .before .before .before .before .table-allowed .ensures) (c .before .before .before .before .before .before .before .before .before .before .numbers-well .ensures) (c .before .before .before .before .before .before .before .before .before .if1 .taken) in
-    (
+    record-tested (a .t1) (a .floats) (a .window) (length (a .reference-count .now)) (length (a .location .now)) (length (a .index-starts .now)) (length (a .index-ends .now)) (c .before .before .before .before .before .before .before .before .before .before .before .table-allowed .result) (c .before .before .before .before .before .before .before .before .before .before .numbers-well .result) (c .before .before .before .before .before .before .before .before .before .before .before .table-allowed .ensures) (c .before .before .before .before .before .before .before .before .before .before .numbers-well .ensures) (c .before .before .before .before .before .before .before .before .before .if1 .taken) in (
       c .before .labels-well-formed .ensures .0 ∙ labels-decide q (a .floats) (a .window) (length-replicate {A = Unit {0}} (a .floats) tt) (length-replicate {A = Unit {0}} (a .window) tt) (λ i. omega (arith, c .before .before .before .before .before .before .before .before .before .before .before .before .before .before .before .before .before .before .before .before .before .before .before .before .before .before .shared-slice-known .given i)) tested (sym (c .before .before .before .before .before .before .before .before .points-listed .ensures .0) ∙ c .before .before .before .before .before .before .before .if2 .taken),
       λ e. (record { live-is = c .before .before .before .before .before .before .before .before .points-listed .ensures .1 (c .before .before .before .before .before .before .before .if2 .taken) .0; labels-free = λ on. c .before .labels-well-formed .ensures .1 e on }, c .before .before .before .before .before .before .before .before .points-listed .ensures .1 (c .before .before .before .before .before .before .before .if2 .taken) .1),
     )
@@ -43,8 +42,7 @@ returns-2 c =
     let a = c .before .before .before .before .before .before .before .before .before .before .before .before .before .before .before .before .before .before .before .before .before .args in
     let q = pointStore (a .t1) (tables (a .floats) (a .window) (a .reference-count) (a .location) (a .index-starts) (a .index-ends) (a .labels) (a .label-attributes) (a .label-count) (a .label-starts) (a .label-ends) (a .attributes) (a .attribute-count) (a .attribute-starts) (a .attribute-ends)) in
     let tested =
-    record-tested (a .t1) (a .floats) (a .window) (length (a .reference-count .now)) (length (a .location .now)) (length (a .index-starts .now)) (length (a .index-ends .now)) (c .before .before .before .before .before .table-allowed .result) (c .before .before .before .before .numbers-well .result) (c .before .before .before .before .before .table-allowed .ensures) (c .before .before .before .before .numbers-well .ensures) (c .before .before .before .if1 .taken) in
-    (
+    record-tested (a .t1) (a .floats) (a .window) (length (a .reference-count .now)) (length (a .location .now)) (length (a .index-starts .now)) (length (a .index-ends .now)) (c .before .before .before .before .before .table-allowed .result) (c .before .before .before .before .numbers-well .result) (c .before .before .before .before .before .table-allowed .ensures) (c .before .before .before .before .numbers-well .ensures) (c .before .before .before .if1 .taken) in (
       labels-off (a .t1 .«store_labels») _ (c .if3 .left) ∙ labels-decide q (a .floats) (a .window) (length-replicate {A = Unit {0}} (a .floats) tt) (length-replicate {A = Unit {0}} (a .window) tt) (λ i. omega (arith, c .before .before .before .before .before .before .before .before .before .before .before .before .before .before .before .before .before .before .before .before .shared-slice-known .given i)) tested (sym (c .before .before .points-listed .ensures .0) ∙ c .before .if2 .taken),
       λ e. (record { live-is = c .before .before .points-listed .ensures .1 (c .before .if2 .taken) .0; labels-free = λ on. absurd (false≢true (sym (c .if3 .left) ∙ on)) }, c .before .before .points-listed .ensures .1 (c .before .if2 .taken) .1),
     )
