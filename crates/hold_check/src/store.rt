@@ -12,13 +12,14 @@ ghost use Rattle.store_check.specs.PointsTest.{pointsTest, PointsReady};
 ghost use Rattle.store_check.specs.Tables.{tablesAtEntry};
 ghost use Rattle.hold_check.specs.Rising.{ListRises};
 use crate::rise::live_rise;
+use class_table::table_allowed;
 use label_check::labels_well_formed;
 use labels::LabelManagers;
 use labels::LabelsFree;
 use store_check::Figures;
 use store_check::Lengths;
+use store_check::numbers_well;
 use store_check::places_distinct;
-use store_check::record_well;
 use store_check::table_well;
 use store_definitions::Store;
 
@@ -109,7 +110,10 @@ pub fn store_well(
         starts: index_starts.len(),
         ends: index_ends.len(),
     };
-    if record_well(s, lent) {
+    let classes = s.classes;
+    let table = table_allowed(classes);
+    let numbers = numbers_well(s, lent);
+    if table & numbers {
         let points = points_listed(
             s,
             reference_count,
@@ -121,33 +125,47 @@ pub fn store_well(
         );
         let well = points.ok;
         if well {
-            let label_manager = s.label_manager;
-            let attribute_manager = s.attribute_manager;
-            let managers = LabelManagers {
-                label_manager,
-                attribute_manager,
-            };
-            let half = labels_well_formed(
-                s.store_labels,
-                &s.classes,
-                s.capacity,
-                managers,
-                labels,
-                label_attributes,
-                label_count,
-                label_starts,
-                label_ends,
-                attributes,
-                attribute_count,
-                attribute_starts,
-                attribute_ends,
-            );
-            let free = half.free;
+            // With labels off nothing is handed on: the slices of a call cost more than the call.
+            if s.store_labels {
+                let label_manager = s.label_manager;
+                let attribute_manager = s.attribute_manager;
+                let managers = LabelManagers {
+                    label_manager,
+                    attribute_manager,
+                };
+                let half = labels_well_formed(
+                    s.store_labels,
+                    &s.classes,
+                    s.capacity,
+                    managers,
+                    labels,
+                    label_attributes,
+                    label_count,
+                    label_starts,
+                    label_ends,
+                    attributes,
+                    attribute_count,
+                    attribute_starts,
+                    attribute_ends,
+                );
+                let free = half.free;
+                return StoreListed {
+                    ok: half.ok,
+                    figures: Figures {
+                        live: points.live,
+                        free,
+                    },
+                    rises: points.rises,
+                };
+            }
             return StoreListed {
-                ok: half.ok,
+                ok: true,
                 figures: Figures {
                     live: points.live,
-                    free,
+                    free: LabelsFree {
+                        labels: 0,
+                        slots: 0,
+                    },
                 },
                 rises: points.rises,
             };

@@ -19,6 +19,7 @@ use labels::LabelManagers;
 use labels::LabelsFree;
 pub use points::places_distinct;
 pub use record::Lengths;
+pub use record::numbers_well;
 pub use record::record_well;
 use store_definitions::Store;
 use table::points_well;
