@@ -21,6 +21,8 @@
  *   growth           indices and floats are first those of `initial_capacity` points. An add that finds no index free, or no float
  *                    space after compacting, makes the table or the float space longer by a fifth, rounded down, and by one index or
  *                    one point's floats at least, up to `capacity`. So an index is denied only where `capacity` indices are live.
+ *   free indices     the length of the table less the live points: those that the next adds get before the table grows. A kept add tells
+ *                    how many are left, the new point counted as live and the table as long as growth made it.
  *   compaction       brings the floats of live points together at the start. Indices and copies stay; places and free start fall, or
  *                    stay where there is nothing to gain.
  *   rotation, turned with rotation a copy is turned: stored float i comes out as entry (i + place x base) mod dimensions. Rows that
@@ -76,9 +78,9 @@ extern "C" {
 
 /* The version of this header. ps_version_agrees() tells whether the archive has the same. */
 #define PS_VERSION_MAJOR 0
-#define PS_VERSION_MINOR 9
+#define PS_VERSION_MINOR 10
 #define PS_VERSION_PATCH 0
-#define PS_VERSION "0.9.0"
+#define PS_VERSION "0.10.0"
 
 /* The sizes that the declarations below rely on; where one differs, the line does not compile. */
 typedef char ps_size_t_has_8_bytes[sizeof(size_t) == 8 ? 1 : -1];
@@ -259,7 +261,7 @@ uint64_t ps_open(uint64_t *words, size_t words_len, PS_WRITTEN_, const uint8_t *
     size_t internal_rotation, size_t store_labels);
 uint64_t ps_add(uint64_t *words, size_t words_len, PS_WRITTEN_,
     const uint32_t *point, size_t point_len, size_t label, uint64_t *kept, uint64_t *index, uint64_t *label_index,
-    uint64_t *joined, uint64_t *place);
+    uint64_t *joined, uint64_t *place, uint64_t *free_indices);
 uint64_t ps_inc(const uint64_t *words, size_t words_len, PS_WRITTEN_, size_t index, size_t label);
 uint64_t ps_dec(uint64_t *words, size_t words_len, PS_WRITTEN_, size_t index, size_t label);
 uint64_t ps_adjust(uint64_t *words, size_t words_len, PS_WRITTEN_,
@@ -293,7 +295,7 @@ uint64_t ps_hold_open(uint64_t *words, size_t words_len, PS_WRITTEN_,
 uint64_t ps_hold_add(uint64_t *words, size_t words_len, PS_WRITTEN_,
     uint16_t *held_indices, size_t held_indices_len, uint16_t *held_labels, size_t held_labels_len,
     const uint32_t *point, size_t point_len, size_t label, uint64_t *kept, uint64_t *index, uint64_t *label_index,
-    uint64_t *joined, uint64_t *place);
+    uint64_t *joined, uint64_t *place, uint64_t *free_indices);
 uint64_t ps_hold_held(const uint64_t *words, size_t words_len, PS_READ_,
     const uint16_t *held_indices, size_t held_indices_len, const uint16_t *held_labels, size_t held_labels_len,
     uint16_t *out, size_t out_len);
@@ -305,7 +307,7 @@ uint64_t ps_probes_open(uint64_t *words, size_t words_len, PS_WRITTEN_, const ui
     size_t internal_rotation, size_t store_labels);
 uint64_t ps_probes_set(uint64_t *words, size_t words_len, PS_WRITTEN_,
     const uint8_t *kinds, size_t kinds_len, const uint32_t *floats, size_t floats_len, size_t label, uint64_t *kept,
-    uint64_t *index, uint64_t *label_index, uint64_t *joined, uint64_t *place);
+    uint64_t *index, uint64_t *label_index, uint64_t *joined, uint64_t *place, uint64_t *free_indices);
 uint64_t ps_probes_tallies(const uint64_t *words, size_t words_len, PS_READ_, uint32_t *out, size_t out_len);
 
 #undef PS_WRITTEN_
@@ -334,14 +336,15 @@ static inline int ps_version_agrees(void) {
 /* ---- The interval manager by itself: a stack of free intervals over lent starts and ends ----
  *
  * `words` has PS_MANAGER_WORDS words, `starts` and `ends` at least `capacity` entries, on a change the new capacity. Opening and
- * change are refused with 13, 1; get with 1, 9; release with 1, 14; the readings with 1. */
+ * change are refused with 13, 1; get with 1, 9; release with 1, 14; the readings with 1. A get writes the index that it gives and how
+ * many are then free: the capacity less those in use, the given one counted among these. */
 
 uint64_t ps_manager_new(uint64_t *words, size_t words_len,
     uint16_t *starts, size_t starts_len, uint16_t *ends, size_t ends_len, size_t size);
 uint64_t ps_manager_change_capacity(uint64_t *words, size_t words_len,
     uint16_t *starts, size_t starts_len, uint16_t *ends, size_t ends_len, size_t new_capacity);
 uint64_t ps_manager_get(uint64_t *words, size_t words_len,
-    uint16_t *starts, size_t starts_len, const uint16_t *ends, size_t ends_len, uint64_t *index);
+    uint16_t *starts, size_t starts_len, const uint16_t *ends, size_t ends_len, uint64_t *index, uint64_t *free_indices);
 uint64_t ps_manager_release(uint64_t *words, size_t words_len,
     uint16_t *starts, size_t starts_len, uint16_t *ends, size_t ends_len, size_t index);
 uint64_t ps_manager_used(const uint64_t *words, size_t words_len,
@@ -404,13 +407,14 @@ struct ps_shape {
     int store_labels;
 };
 
-/* What an accepted add answers. The last four are as they were while no point is kept. */
+/* What an accepted add answers. The last five are as they were while no point is kept. */
 struct ps_added {
-    uint64_t kept;        /* 1, or 0 while the first window fills */
+    uint64_t kept;         /* 1, or 0 while the first window fills */
     uint64_t index;
-    uint64_t label_index; /* PS_NONE with labels off */
-    uint64_t joined;      /* 1 where the row shares floats with those before it */
+    uint64_t label_index;  /* PS_NONE with labels off */
+    uint64_t joined;       /* 1 where the row shares floats with those before it */
     uint64_t place;
+    uint64_t free_indices; /* how many indices remain free; in a hold as it stood before the oldest was given up */
 };
 
 /* One pair of an adjust: an inc of the first index and label index, then a dec of the second. PS_NONE as the insert's index skips
@@ -549,7 +553,7 @@ static inline uint64_t ps_store_add(
     if (!s || !added || PS_MISSING_(point, point_len))
         return PS_ILL_FORMED;
     return ps_add(PS_CHANGED_(s), PS_SLICE_(const uint32_t, point, point_len), label, &added->kept, &added->index,
-        &added->label_index, &added->joined, &added->place);
+        &added->label_index, &added->joined, &added->place, &added->free_indices);
 }
 
 /* One count more of an index and of its label index. With labels off the label index is ignored. Refused with 1, 5, 6, 7. */
@@ -830,7 +834,7 @@ static inline uint64_t ps_store_hold_add(
         return PS_ILL_FORMED;
     r = ps_hold_record_of(h);
     number = ps_hold_add(PS_HELD_(PS_NOTHING_, h, r), PS_SLICE_(const uint32_t, point, point_len), label, &added->kept,
-        &added->index, &added->label_index, &added->joined, &added->place);
+        &added->index, &added->label_index, &added->joined, &added->place, &added->free_indices);
     ps_hold_record_to(h, &r);
     return number;
 }
@@ -956,7 +960,7 @@ static inline uint64_t ps_store_probes_set(struct ps_probes *p, const uint8_t *k
     r = ps_probes_record_of(p);
     number = ps_probes_set(PS_PRODUCT_(PS_NOTHING_, p, r), PS_SLICE_(const uint8_t, kinds, kinds_len),
         PS_SLICE_(const uint32_t, floats, floats_len), label, &added->kept, &added->index, &added->label_index, &added->joined,
-        &added->place);
+        &added->place, &added->free_indices);
     ps_probes_record_to(p, &r);
     return number;
 }

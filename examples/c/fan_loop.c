@@ -67,15 +67,15 @@ int main(void) {
     accepted(ps_store_hold_open(&h, &shape, WIDTH, PS_REASON_CLASSES, PS_CLASS_TEXT_BYTES), "open");
 
     for (size_t i = 0; i < sizeof readings / sizeof readings[0]; i++) {
-        struct ps_added added = {0, 0, 0, 0, 0};
+        struct ps_added added = {0, 0, 0, 0, 0, 0};
         size_t code = i > 0 && readings[i] - readings[i - 1] > 2.0f ? RISING : STEADY;
         accepted(ps_store_hold_add(&h, &readings[i], 1, code, &added), "add");
         if (!added.kept) {
             printf("%.1f: the window fills\n", (double)readings[i]);
             continue;
         }
-        printf("%.1f: index %" PRIu64 ", %s at place %" PRIu64 "\n", (double)readings[i], added.index,
-            added.joined ? "joined" : "whole", added.place);
+        printf("%.1f: index %" PRIu64 ", %s at place %" PRIu64 ", %" PRIu64 " indices left\n", (double)readings[i], added.index,
+            added.joined ? "joined" : "whole", added.place, added.free_indices);
     }
 
     accepted(ps_store_free_start(&h.store, &free_start), "free_start");

@@ -28,7 +28,7 @@ int main(void) {
     struct ps_shape shape = {SETS * PS_PROBES, SETS, WINDOWS, WINDOWS, 1, 0, 0};
     struct ps_probes probes;
     uint64_t number = ps_probes_memory_in(block, sizeof block, &shape, &probes);
-    uint64_t oldest = 0, kept = 0;
+    uint64_t oldest = 0, left = WINDOWS;
     uint32_t tallies[PS_PROBES];
     int turn;
     if (number == PS_OK)
@@ -39,10 +39,9 @@ int main(void) {
         struct ps_added added;
         report(turn, kinds, degrees);
         /* the window that has been looked at longest makes room for the next */
-        if (kept == WINDOWS) {
+        if (left == 0) {
             number = ps_store_dec(&probes.store, (size_t)oldest, PS_NONE);
             oldest = (oldest + 1) % WINDOWS;
-            kept--;
         }
         if (number == PS_OK)
             number = ps_store_probes_set(&probes, kinds, PS_PROBES, degrees, PS_PROBES, 0, &added);
@@ -52,10 +51,10 @@ int main(void) {
             printf("turn %d: waiting\n", turn);
             continue;
         }
-        kept++;
+        left = added.free_indices;
         number = ps_store_copy(&probes.store, (size_t)added.index, window, SETS * PS_PROBES);
-        printf("turn %d: window %" PRIu64 ", probe 2: %.1f %.1f %.1f, probe 5: %.1f %.1f %.1f\n", turn, added.index,
-            (double)window[2], (double)window[10], (double)window[18], (double)window[5], (double)window[13],
+        printf("turn %d: window %" PRIu64 ", %" PRIu64 " left, probe 2: %.1f %.1f %.1f, probe 5: %.1f %.1f %.1f\n", turn, added.index,
+            left, (double)window[2], (double)window[10], (double)window[18], (double)window[5], (double)window[13],
             (double)window[21]);
     }
     if (number == PS_OK)

@@ -22,7 +22,7 @@ static struct ps_shape shape_of(size_t shingle_size, size_t capacity, int rotati
 }
 
 static uint64_t add(struct ps_hold *h, float first, float second) {
-    struct ps_added added = {0, 0, 0, 0, 0};
+    struct ps_added added = {0, 0, 0, 0, 0, 0};
     float point[2];
     point[0] = first;
     point[1] = second;
@@ -73,7 +73,7 @@ static void widths(struct ps_hold *h) {
 static void sliding(struct ps_hold *h) {
     struct ps_shape shape = shape_of(1, CAPACITY, 0, 1);
     uint16_t held[CAPACITY];
-    struct ps_added added = {7, 7, 7, 7, 7};
+    struct ps_added added = {7, 7, 7, 7, 7, 7};
     float point[2] = {0, 0};
     uint64_t number;
     printf("open: %" PRIu64 "\n", opened(h, &shape, 2));
@@ -86,10 +86,28 @@ static void sliding(struct ps_hold *h) {
     print_held("", h);
     printf("wrong length: %" PRIu64, ps_store_hold_add(h, point, 1, 0, &added));
     printf(", code 24: %" PRIu64, ps_store_hold_add(h, point, 2, 24, &added));
-    printf(", answer %" PRIu64 "\n", added.kept);
+    printf(", answer %" PRIu64 ", figure %" PRIu64 "\n", added.kept, added.free_indices);
     printf("an output too short, too long: %" PRIu64 " %" PRIu64 "\n", ps_store_hold_held(h, held, 1), ps_store_hold_held(h, held, 3));
     printf("live: %" PRIu64, ps_store_live_number(&h->store, &number));
     printf(" %" PRIu64 "\n", number);
+}
+
+/* how many indices remain free, before the oldest is given up */
+static void figures(struct ps_hold *h) {
+    struct ps_shape shape = shape_of(1, CAPACITY, 0, 1);
+    struct ps_added added = {7, 7, 7, 7, 7, 7};
+    float point[2] = {0, 0};
+    uint64_t live;
+    int i;
+    shape.initial_capacity = 2;
+    printf("a start of 2, width 2: %" PRIu64, opened(h, &shape, 2));
+    for (i = 0; i < 5; i++) {
+        point[0] = (float)i;
+        printf("; %" PRIu64, ps_store_hold_add(h, point, 2, 0, &added));
+        printf(" index %" PRIu64 ", free %" PRIu64, added.index, added.free_indices);
+        printf(" and then %" PRIu64, ps_store_live_number(&h->store, &live) == PS_OK ? h->store.words[9] - live : 99);
+    }
+    printf("\n");
 }
 
 static void mixed(struct ps_hold *h) {
@@ -169,6 +187,7 @@ int main(void) {
     one_block(&h);
     widths(&h);
     sliding(&h);
+    figures(&h);
     mixed(&h);
     rotating(&h);
     missing(&h);

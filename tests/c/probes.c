@@ -29,7 +29,7 @@ static void opened(const char *when, struct ps_probes *p, const struct ps_shape 
 
 /* a set of one kind and float, but for probe 0 */
 static uint64_t set(struct ps_probes *p, uint8_t kind, float value, uint8_t first_kind, float first, size_t label) {
-    struct ps_added added = {7, 7, 7, 7, 7};
+    struct ps_added added = {7, 7, 7, 7, 7, 7};
     uint8_t kinds[PS_PROBES];
     float floats[PS_PROBES];
     uint64_t number;
@@ -40,11 +40,12 @@ static uint64_t set(struct ps_probes *p, uint8_t kind, float value, uint8_t firs
     }
     number = ps_store_probes_set(p, kinds, PS_PROBES, floats, PS_PROBES, label, &added);
     if (number)
-        printf("  refused with %" PRIu64 ", answer %" PRIu64 "\n", number, added.kept);
+        printf("  refused with %" PRIu64 ", answer %" PRIu64 ", figure %" PRIu64 "\n", number, added.kept, added.free_indices);
     else if (added.kept)
-        printf("  kept: index %" PRIu64 ", %s at place %" PRIu64 "\n", added.index, added.joined ? "joined" : "whole", added.place);
+        printf("  kept: index %" PRIu64 ", %s at place %" PRIu64 ", %" PRIu64 " free\n", added.index, added.joined ? "joined" : "whole",
+            added.place, added.free_indices);
     else
-        printf("  waiting\n");
+        printf("  waiting, figure %" PRIu64 "\n", added.free_indices);
     return number;
 }
 

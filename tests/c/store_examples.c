@@ -48,11 +48,12 @@ static uint64_t add_four(float a, float b, float c, float d) {
     return ps_store_add(&s, point, 4, 0, &added);
 }
 
-static void kept(uint64_t index, uint64_t joined, uint64_t place, uint64_t free_start) {
+static void kept(uint64_t index, uint64_t joined, uint64_t place, uint64_t free_indices, uint64_t free_start) {
     IS(added.kept, 1);
     IS(added.index, index);
     IS(added.joined, joined);
     IS(added.place, place);
+    IS(added.free_indices, free_indices);
     IS(ps_store_free_start(&s, &n), 0);
     IS(n, free_start);
 }
@@ -60,23 +61,25 @@ static void kept(uint64_t index, uint64_t joined, uint64_t place, uint64_t free_
 /* 'the example' after add 1 2, add 3 4, add 5 6: cases A, B and C */
 static void three_adds(int rotation) {
     IS(opened(4, 2, 10, 5, 1, rotation, 0), 0);
+    added.free_indices = 77;
     IS(add_two(1, 2, 0), 0);
     IS(added.kept, 0);
+    IS(added.free_indices, 77);
     IS(row_is(s.memory.last_known_shingle, 0, 0, 1, 2), 1);
     IS(add_two(3, 4, 0), 0);
-    kept(0, 0, 0, 4);
+    kept(0, 0, 0, 4, 4);
     IS(added.label_index, PS_NONE);
     IS(add_two(5, 6, 0), 0);
-    kept(1, 1, 1, 6);
+    kept(1, 1, 1, 3, 6);
     IS(row_is(s.memory.last_known_shingle, 3, 4, 5, 6), 1);
 }
 
 static void five_adds(int rotation) {
     three_adds(rotation);
     IS(add_two(7, 8, 0), 0);
-    kept(2, 1, 2, 8);
+    kept(2, 1, 2, 2, 8);
     IS(add_two(9, 10, 0), 0);
-    kept(3, 1, 3, 10);
+    kept(3, 1, 3, 1, 10);
 }
 
 static void opening(void) {
@@ -96,9 +99,12 @@ static void adding_and_growth(void) {
     int i;
     three_adds(0);
     IS(ps_store_add(&s, &one, 1, 0, &added), 3);
+    IS(added.free_indices, 3);
     IS(opened(4, 1, 10, 5, 0, 0, 0), 0);
-    for (i = 0; i < 6; i++)
+    for (i = 0; i < 6; i++) {
         IS(add_four(1, 2, 3, 4), 0);
+        IS(added.free_indices, i < 5 ? 4 - i : 0);
+    }
     IS(s.words[9], 6);
     IS(s.words[6], 24);
     IS(opened(4, 1, 10, 4, 0, 0, 0), 0);
@@ -109,6 +115,16 @@ static void adding_and_growth(void) {
     for (i = 5; i < 10; i++)
         IS(add_four(1, 2, 3, 4), 0);
     IS(add_four(1, 2, 3, 4), 9);
+    IS(added.free_indices, 0);
+    IS(opened(1, 1, 12, 10, 0, 0, 0), 0);
+    for (i = 0; i < 12; i++) {
+        IS(ps_store_add(&s, &one, 1, 0, &added), 0);
+        IS(added.free_indices, i < 10 ? 9 - i : 11 - i);
+    }
+    IS(ps_store_dec(&s, 4, PS_NONE), 0);
+    IS(ps_store_dec(&s, 9, PS_NONE), 0);
+    IS(ps_store_add(&s, &one, 1, 0, &added), 0);
+    IS(added.free_indices, 1);
 }
 
 static void counting(void) {
@@ -147,7 +163,7 @@ static void compaction(void) {
     IS(ps_store_copy(&s, 2, out, 4), 0);
     IS(row_is(out, 5, 6, 7, 8), 1);
     IS(add_two(11, 12, 0), 0);
-    kept(0, 1, 2, 8);
+    kept(0, 1, 2, 2, 8);
     five_adds(1);
     IS(ps_store_dec(&s, 0, PS_NONE), 0);
     IS(ps_store_compact(&s), 0);
@@ -169,7 +185,7 @@ static void float_space(void) {
         IS(last ? add_four(5, 6, 9, 9) : add_four(9, 9, 9, 9), last ? 0 : 10);
         IS(s.words[7], last ? 8 : 6);
     }
-    kept(0, 1, 2, 8);
+    kept(0, 1, 2, 0, 8);
 }
 
 /* a row laid whole is turned by where the free start was */
@@ -180,7 +196,7 @@ static void turned_whole(void) {
     IS(ps_store_dec(&s, 0, PS_NONE), 0);
     IS(ps_store_compact(&s), 0);
     IS(add_two(5, 6, 0), 0);
-    kept(0, 0, 0, 4);
+    kept(0, 0, 0, 4, 4);
     IS(ps_store_copy(&s, 0, out, 4), 0);
     IS(row_is(out, 3, 4, 5, 6), 1);
 }
@@ -224,15 +240,15 @@ static void equality(void) {
     memcpy(&nan, &nan_bits, sizeof nan);
     three_adds(0);
     IS(add_two(0, 7, 0), 0);
-    kept(2, 1, 2, 8);
+    kept(2, 1, 2, 2, 8);
     IS(ps_store_is_equal(&s, 2, zero, 4, &n), 0);
     IS(n, 1);
     IS(ps_store_is_equal(&s, 2, minus_zero, 4, &n), 0);
     IS(n, 0);
     IS(add_two(nan, 8, 0), 0);
-    kept(3, 1, 3, 10);
+    kept(3, 1, 3, 1, 10);
     IS(add_two(9, 10, 0), 0);
-    kept(4, 1, 4, 12);
+    kept(4, 1, 4, 0, 12);
     after[2] = nan;
     IS(ps_store_is_equal(&s, 3, after, 4, &n), 0);
     IS(n, 1);
@@ -310,10 +326,12 @@ static uint64_t hold_opened(struct ps_hold *h, size_t width) {
     return ps_store_hold_open(h, &shape, width, PS_REASON_CLASSES, PS_CLASS_TEXT_BYTES);
 }
 
-static uint64_t hold_add(struct ps_hold *h, float a, uint64_t index) {
+static uint64_t hold_add(struct ps_hold *h, float a, uint64_t index, uint64_t free_indices) {
     uint64_t number = ps_store_hold_add(h, &a, 1, 0, &added);
-    if (number == PS_OK)
+    if (number == PS_OK) {
         IS(added.index, index);
+        IS(added.free_indices, free_indices);
+    }
     return number;
 }
 
@@ -333,22 +351,22 @@ static void hold(void) {
     IS(hold_opened(&h, 0), 15);
     IS(hold_opened(&h, 4), 15);
     IS(hold_opened(&h, 2), 0);
-    IS(hold_add(&h, 10, 0), 0);
-    IS(hold_add(&h, 20, 1), 0);
+    IS(hold_add(&h, 10, 0, 3), 0);
+    IS(hold_add(&h, 20, 1, 2), 0);
     held_are(&h, 0, 1);
-    IS(hold_add(&h, 30, 2), 0);
+    IS(hold_add(&h, 30, 2, 1), 0);
     held_are(&h, 1, 2);
     IS(ps_store_hold_add(&h, two, 2, 0, &added), 3);
     held_are(&h, 1, 2);
-    IS(hold_add(&h, 40, 0), 0);
+    IS(hold_add(&h, 40, 0, 1), 0);
     held_are(&h, 2, 0);
     IS(ps_store_copy(&h.store, 0, out, 1), 0);
     IS(out[0] == 40.0f, 1);
     IS(ps_store_count(&h.store, 1, &n), 5);
     IS(ps_store_inc(&h.store, 2, PS_NONE), 0);
-    IS(hold_add(&h, 50, 1), 1);
+    IS(hold_add(&h, 50, 1, 1), 1);
     IS(ps_store_dec(&h.store, 2, PS_NONE), 0);
-    IS(hold_add(&h, 50, 1), 0);
+    IS(hold_add(&h, 50, 1, 1), 0);
     held_are(&h, 0, 1);
 }
 
@@ -357,11 +375,13 @@ static void manager(void) {
     static const unsigned char used[6] = {3, 2, 1, 1, 2, 1};
     uint64_t words[PS_MANAGER_WORDS];
     uint16_t starts[8], ends[8];
+    uint64_t free_indices = 77;
     int step;
     IS(ps_manager_new(words, PS_MANAGER_WORDS, starts, 8, ends, 8, 5), 0);
     for (step = 0; step < 3; step++) {
-        IS(ps_manager_get(words, PS_MANAGER_WORDS, starts, 8, ends, 8, &n), 0);
+        IS(ps_manager_get(words, PS_MANAGER_WORDS, starts, 8, ends, 8, &n, &free_indices), 0);
         IS(n, step);
+        IS(free_indices, 4 - step);
     }
     for (step = 0; step < 6; step++) {
         if (step == 1 || step == 2)
@@ -369,8 +389,9 @@ static void manager(void) {
         if (step == 3)
             IS(ps_manager_change_capacity(words, PS_MANAGER_WORDS, starts, 8, ends, 8, 8), 0);
         if (step == 4) {
-            IS(ps_manager_get(words, PS_MANAGER_WORDS, starts, 8, ends, 8, &n), 0);
+            IS(ps_manager_get(words, PS_MANAGER_WORDS, starts, 8, ends, 8, &n, &free_indices), 0);
             IS(n, 5);
+            IS(free_indices, 6);
         }
         if (step == 5)
             IS(ps_manager_release(words, PS_MANAGER_WORDS, starts, 8, ends, 8, 2), 0);
@@ -381,6 +402,13 @@ static void manager(void) {
     IS(memcmp(starts, last_starts, sizeof last_starts), 0);
     IS(memcmp(ends, last_ends, sizeof last_ends), 0);
     IS(ps_manager_release(words, PS_MANAGER_WORDS, starts, 8, ends, 8, 2), 14);
+    IS(ps_manager_new(words, PS_MANAGER_WORDS, starts, 8, ends, 8, 1), 0);
+    IS(ps_manager_get(words, PS_MANAGER_WORDS, starts, 8, ends, 8, &n, &free_indices), 0);
+    IS(free_indices, 0);
+    free_indices = 77;
+    IS(ps_manager_get(words, PS_MANAGER_WORDS, starts, 8, ends, 8, &n, &free_indices), 9);
+    IS(n, 0);
+    IS(free_indices, 77);
 }
 
 int main(void) {

@@ -131,7 +131,7 @@ impl<'a> LentHold<'a> {
     }
 
     /// Adds a point as a store does, with the same answer; where it is kept and more than the width
-    /// are held, the oldest is given up.
+    /// are held, the oldest is given up. How many indices remain free is told as it was before that.
     pub fn add(&mut self, point: &[f32], label: usize) -> Result<Added> {
         let mut answer = sys::AddAnswer::default();
         Refusal::of_number(sys::hold_add(
@@ -233,7 +233,7 @@ impl Hold {
     }
 
     /// Adds a point as a store does, with the same answer; where it is kept and more than the width
-    /// are held, the oldest is given up.
+    /// are held, the oldest is given up. How many indices remain free is told as it was before that.
     ///
     /// ```
     /// use point_store::{Refusal, Shape};

@@ -43,6 +43,9 @@ pub enum Added {
         label: usize,
         /// How its row was laid, and where.
         laid: Laid,
+        /// How many indices remain free: the table's length, after growth, less the live points, this one
+        /// among them. In a hold as it stood before the oldest was given up.
+        free_indices: usize,
     },
     /// The first window is not full yet; the reading is in it, and nothing else is kept.
     Waiting,
@@ -62,6 +65,7 @@ impl Added {
             } else {
                 Laid::Joined(place)
             },
+            free_indices: answer.free_indices as usize,
         }
     }
 }

@@ -61,7 +61,7 @@ pub use hold::{LentHold, LentHoldMemory, HOLD_WORDS};
 pub use lent::{
     name_in, Added, Item, Laid, LentPointStore, Pair, MAX_ATTRIBUTES, NAME_BYTES, NONE,
 };
-pub use manager::IntervalManager;
+pub use manager::{Given, IntervalManager};
 pub use memory::{LentMemory, RECORD_WORDS};
 #[cfg(feature = "alloc")]
 pub use point_store::PointStore;

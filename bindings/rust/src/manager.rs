@@ -10,17 +10,18 @@ use crate::sys;
 /// capacity.
 ///
 /// ```
-/// use point_store::{IntervalManager, Refusal};
+/// use point_store::{Given, IntervalManager, Refusal};
 ///
 /// let mut manager = IntervalManager::new([0; 4], [0; 4], 3)?;
-/// assert_eq!((manager.get()?, manager.get()?, manager.used()?), (0, 1, 2));
+/// assert_eq!(manager.get()?, Given { index: 0, free_indices: 2 });
+/// assert_eq!((manager.get()?.index, manager.used()?), (1, 2));
 /// manager.release(0)?;
-/// assert_eq!(manager.get()?, 0);
+/// assert_eq!(manager.get()?.index, 0);
 /// assert_eq!(manager.release(2), Err(Refusal::NotReleasable));
-/// assert_eq!(manager.get()?, 2);
+/// assert_eq!(manager.get()?, Given { index: 2, free_indices: 0 });
 /// assert_eq!(manager.get(), Err(Refusal::PointsFull));
 /// manager.change_capacity(4)?;
-/// assert_eq!((manager.get()?, manager.is_empty()?), (3, true));
+/// assert_eq!((manager.get()?.index, manager.is_empty()?), (3, true));
 /// # Ok::<(), Refusal>(())
 /// ```
 #[derive(Clone, Debug)]
@@ -28,6 +29,15 @@ pub struct IntervalManager<Table> {
     words: [u64; 2],
     starts: Table,
     ends: Table,
+}
+
+/// What a manager's get gives.
+#[derive(Clone, Copy, Debug, PartialEq, Eq, Hash)]
+pub struct Given {
+    /// The index taken.
+    pub index: usize,
+    /// How many are then free.
+    pub free_indices: usize,
 }
 
 impl<Table: AsRef<[u16]> + AsMut<[u16]>> IntervalManager<Table> {
@@ -59,16 +69,20 @@ impl<Table: AsRef<[u16]> + AsMut<[u16]>> IntervalManager<Table> {
         ))
     }
 
-    /// Takes a free index; [`Refusal::PointsFull`] where there is none.
-    pub fn get(&mut self) -> Result<usize> {
-        let mut index = 0;
+    /// Takes a free index, and tells how many are left; [`Refusal::PointsFull`] where there is none.
+    pub fn get(&mut self) -> Result<Given> {
+        let (mut index, mut free_indices) = (0, 0);
         Refusal::of_number(sys::manager_get(
             &mut self.words,
             self.starts.as_mut(),
             self.ends.as_ref(),
             &mut index,
+            &mut free_indices,
         ))?;
-        Ok(index as usize)
+        Ok(Given {
+            index: index as usize,
+            free_indices: free_indices as usize,
+        })
     }
 
     /// Gives an index back; [`Refusal::NotReleasable`] for one that is free, or not below the capacity.

@@ -84,7 +84,7 @@ impl ProvedPointStore {
         String::from(name_in(&mut out).unwrap_or_default())
     }
 
-    /// [`add`](PointStore::add), with how the row was laid and where.
+    /// [`add`](PointStore::add), with how the row was laid and where, and how many indices remain free.
     ///
     /// ```
     /// use point_store::{Added, Laid, ProvedPointStore, NONE};
@@ -92,9 +92,9 @@ impl ProvedPointStore {
     /// # fn main() -> point_store::Result<()> {
     /// let mut store = ProvedPointStore::new(4, 2, 10, 5, true, false, false, false)?;
     /// assert_eq!(store.add_laid(&[1.0, 2.0], 0)?, Added::Waiting);
-    /// let whole = Added::Kept { index: 0, label: NONE, laid: Laid::Whole(0) };
+    /// let whole = Added::Kept { index: 0, label: NONE, laid: Laid::Whole(0), free_indices: 4 };
     /// assert_eq!(store.add_laid(&[3.0, 4.0], 0)?, whole);
-    /// let joined = Added::Kept { index: 1, label: NONE, laid: Laid::Joined(1) };
+    /// let joined = Added::Kept { index: 1, label: NONE, laid: Laid::Joined(1), free_indices: 3 };
     /// assert_eq!(store.add_laid(&[5.0, 6.0], 0)?, joined);
     /// # Ok(())
     /// # }

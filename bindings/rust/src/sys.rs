@@ -90,6 +90,7 @@ declare! { mut
         label_index: &mut u64,
         joined: &mut u64,
         place: &mut u64,
+        free_indices: &mut u64,
     );
     ps_inc(index: usize, label: usize);
     ps_dec(index: usize, label: usize);
@@ -124,6 +125,7 @@ declare! { mut
         label_index: &mut u64,
         joined: &mut u64,
         place: &mut u64,
+        free_indices: &mut u64,
     );
     ps_probes_open(
         class_text: *const u8,
@@ -147,6 +149,7 @@ declare! { mut
         label_index: &mut u64,
         joined: &mut u64,
         place: &mut u64,
+        free_indices: &mut u64,
     );
 }
 
@@ -217,6 +220,7 @@ extern "C" {
         ends: *const u16,
         ends_length: usize,
         index: &mut u64,
+        free_indices: &mut u64,
     ) -> u64;
     fn ps_manager_release(
         words: *mut u64,
@@ -357,7 +361,7 @@ pub fn open(memory: &mut LentMemory<'_>, shape: &Shape<'_>) -> u64 {
     }
 }
 
-/// What an add answers; the last four are written only if the point is kept.
+/// What an add answers; the last five are written only if the point is kept.
 #[derive(Default)]
 pub struct AddAnswer {
     pub kept: u64,
@@ -365,6 +369,7 @@ pub struct AddAnswer {
     pub label_index: u64,
     pub joined: u64,
     pub place: u64,
+    pub free_indices: u64,
 }
 
 pub fn add(
@@ -373,7 +378,7 @@ pub fn add(
     label: usize,
     answer: &mut AddAnswer,
 ) -> u64 {
-    // SAFETY: the memory and the answer's five fields are borrowed to be changed, so that the point
+    // SAFETY: the memory and the answer's six fields are borrowed to be changed, so that the point
     // overlaps neither.
     unsafe {
         change!(
@@ -386,7 +391,8 @@ pub fn add(
             &mut answer.index,
             &mut answer.label_index,
             &mut answer.joined,
-            &mut answer.place
+            &mut answer.place,
+            &mut answer.free_indices
         )
     }
 }
@@ -628,7 +634,8 @@ pub fn hold_add(
             &mut answer.index,
             &mut answer.label_index,
             &mut answer.joined,
-            &mut answer.place
+            &mut answer.place,
+            &mut answer.free_indices
         )
     }
 }
@@ -718,7 +725,8 @@ pub fn probes_set(
             &mut answer.index,
             &mut answer.label_index,
             &mut answer.joined,
-            &mut answer.place
+            &mut answer.place,
+            &mut answer.free_indices
         )
     }
 }
@@ -729,7 +737,7 @@ pub fn probes_tallies(memory: &ReadMemory<'_>, out: &mut [u32]) -> u64 {
 
 /// Calls a function of the manager that changes its record and a table, or both.
 macro_rules! manager {
-    ($function:ident, $words:ident, $starts:ident, $ends:ident.$as_ptr:ident, $argument:expr) => {
+    ($function:ident, $words:ident, $starts:ident, $ends:ident.$as_ptr:ident $(, $argument:expr)*) => {
         $function(
             $words.as_mut_ptr(),
             $words.len(),
@@ -737,7 +745,7 @@ macro_rules! manager {
             $starts.len(),
             $ends.$as_ptr(),
             $ends.len(),
-            $argument,
+            $($argument),*
         )
     };
 }
@@ -781,8 +789,23 @@ pub fn manager_change_capacity(
     }
 }
 
-pub fn manager_get(words: &mut [u64], starts: &mut [u16], ends: &[u16], index: &mut u64) -> u64 {
-    unsafe { manager!(ps_manager_get, words, starts, ends.as_ptr, index) }
+pub fn manager_get(
+    words: &mut [u64],
+    starts: &mut [u16],
+    ends: &[u16],
+    index: &mut u64,
+    free_indices: &mut u64,
+) -> u64 {
+    unsafe {
+        manager!(
+            ps_manager_get,
+            words,
+            starts,
+            ends.as_ptr,
+            index,
+            free_indices
+        )
+    }
 }
 
 pub fn manager_release(

@@ -41,10 +41,24 @@ fn a_waiting_or_refused_add_gives_up_nothing() {
         index: 0,
         label: NONE,
         laid: Laid::Whole(0),
+        free_indices: 3,
     };
     assert_eq!(hold.add(&[2.0], 0), Ok(kept));
     assert_eq!(hold.add(&[3.0, 4.0], 0), Err(Refusal::Length));
     assert_eq!(hold.held(), Ok(vec![0]));
+}
+
+#[test]
+fn the_figure_is_from_before_the_oldest_goes() {
+    let mut hold = LABELLED.open_hold(2).unwrap();
+    let figures: Vec<usize> = (0..5)
+        .map(|k| match hold.add(&[k as f32, 0.0], 0) {
+            Ok(Added::Kept { free_indices, .. }) => free_indices,
+            other => panic!("{other:?}"),
+        })
+        .collect();
+    assert_eq!(figures, [3, 2, 1, 1, 1]);
+    assert_eq!(hold.store().live_number(), Ok(2));
 }
 
 #[test]

@@ -2,8 +2,8 @@
 //! touches; the shape's builder; the manager by itself.
 
 use point_store::{
-    Added, AdjustRefusal, IntervalManager, Item, LentMemory, LentPointStore, Pair, PointStore,
-    ProvedPointStore, Refusal, Shape, NONE,
+    Added, AdjustRefusal, Given, IntervalManager, Item, LentMemory, LentPointStore, Pair,
+    PointStore, ProvedPointStore, Refusal, Result, Shape, NONE,
 };
 
 const UNTOUCHED: u64 = 0xa5a5_a5a5_a5a5_a5a5;
@@ -208,6 +208,13 @@ fn new_and_the_builder_open_the_same_store() {
     assert_eq!(format!("{built:?}"), format!("{made:?}"));
 }
 
+fn given(index: usize, free_indices: usize) -> Result<Given> {
+    Ok(Given {
+        index,
+        free_indices,
+    })
+}
+
 #[test]
 fn the_manager_refuses_and_answers() {
     assert_eq!(
@@ -227,7 +234,7 @@ fn the_manager_refuses_and_answers() {
     assert_eq!(manager.get_capacity(), Ok(3));
     assert_eq!(
         [manager.get(), manager.get(), manager.get()],
-        [Ok(0), Ok(1), Ok(2)]
+        [given(0, 2), given(1, 1), given(2, 0)]
     );
     assert_eq!(
         (manager.get(), manager.is_empty()),
@@ -250,6 +257,6 @@ fn the_manager_refuses_and_answers() {
     );
     assert_eq!(
         [manager.get(), manager.get(), manager.get()],
-        [Ok(3), Ok(4), Ok(1)]
+        [given(3, 2), given(4, 1), given(1, 0)]
     );
 }

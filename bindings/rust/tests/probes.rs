@@ -28,6 +28,7 @@ fn estimates_are_tallied_and_absent_readings_repeat() {
         index: 0,
         label: NONE,
         laid: Laid::Whole(0),
+        free_indices: 3,
     };
     assert_eq!(probes.set(first(Measured(6.0), 2.0), 0), Ok(kept));
     probes.set(first(Absent, 3.0), 0).unwrap();

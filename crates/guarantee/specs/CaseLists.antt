@@ -120,7 +120,7 @@ answer h c before = answerTo wordsEqual 0 (fresh h) c before
 abbrev pub gave : List (Call ℕ) → List ℕ → ℕ → Given ℕ
 gave calls row place = record { calls = calls; row = row; place = place }
 
--- the lists, the last call first: A, B, C, the two adds that follow, D, and G, which rotates
+-- the lists, the last call first: A, B, C, the three adds that follow, D, and G, which rotates
 abbrev pub listA : List (Call ℕ)
 listA = add (1 ∷ 2 ∷ []) 0 ∷ []
 
@@ -135,6 +135,9 @@ listFour = add (7 ∷ 8 ∷ []) 0 ∷ listC
 
 abbrev pub listFive : List (Call ℕ)
 listFive = add (9 ∷ 10 ∷ []) 0 ∷ listFour
+
+abbrev pub listFull : List (Call ℕ)
+listFull = add (11 ∷ 12 ∷ []) 0 ∷ listFive
 
 abbrev pub listD : List (Call ℕ)
 listD = compact ∷ dec 1 none ∷ dec 0 none ∷ listFive

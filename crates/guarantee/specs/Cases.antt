@@ -15,7 +15,7 @@ use Rattle.class_table.specs.Reasons.{reasonClasses}
 use Rattle.class_table.specs.Table.{someBelow, largestBelow, tableAllowed}
 use Rattle.class_table.specs.Text.{numbered, tableText, classesOf, tableRead}
 use Rattle.interval_store_manager.specs.Calls.{pushed, changed, taken, released}
-use Rattle.interval_store_manager.specs.Intervals.{inside, holders, isFree, inBounds, noneShared}
+use Rattle.interval_store_manager.specs.Intervals.{inside, holders, isFree, freeNumber, inBounds, noneShared}
 use Rattle.interval_store_manager.specs.WellFormed.{capacityAllowed, lentEnough as stackLent, wellFormed as managerWellFormed}
 use Rattle.placement.specs.declared.Laid.the-variants.{Whole, Joined}
 use Rattle.placement.specs.Alignment.{wrappingSub, wrappingAdd, alignment, zerosBefore}
@@ -34,7 +34,7 @@ use Rattle.store_definitions.specs.Answers.{kept, done, is, refused, refusedAft
 use Rattle.store_definitions.specs.Opening.{openedMemory, opened}
 use Rattle.store_definitions.specs.Counting.{incTest, incremented, incSpec, pairDecided, pairDone, adjustFrom, adjustSpec, decTest, placeAfterDec, decremented, decSpec, countSpec, liveNumberSpec, freeStartSpec}
 use Rattle.store_definitions.specs.Rows.{compactedRows, grownRows, short, roomMade, compactSpec, copyOf, copyDecided, copyWritten, copySpec}
-use Rattle.store_definitions.specs.Adding.{pointLength, waits, tableFull, entriesFilled, addDecided, windowAfter, sequenced, rowOf, labelGiven, labelled, tableGrown, placed, joins, overflows, laidRows, laidHow, keptAfter, indexGiven, keeps, addSpec}
+use Rattle.store_definitions.specs.Adding.{pointLength, waits, tableFull, entriesFilled, addDecided, windowAfter, sequenced, rowOf, labelGiven, labelled, tableGrown, placed, joins, overflows, laidRows, laidHow, keptAfter, indexGiven, freeLeft, keeps, addSpec}
 use Rattle.store_definitions.specs.Bounds.{boundsHold, rotationAllowed, labelsLent, lentEnough}
 use Rattle.store_definitions.specs.Decisions.{formDecided, live, touchDecided}
 use Rattle.store_definitions.specs.WellFormed.{tableLengthWell, storeLengthWell, freeStartWell, emptyUncounted, placesDistinct, placesEnd, sequenceWell, wellFormed}
@@ -42,7 +42,7 @@ use Rattle.guarantee.specs.Calls.{copyCall, countCall, liveNumberCall, f
 use Rattle.guarantee.specs.Run.{add, inc, dec, compact, after}
 use Rattle.guarantee.specs.History.{dead, alive, pairChanges, pairsChanges, joinedPoints, rowOfAdd, changedBy, recorded, history}
 use Rattle.guarantee.specs.Guarantee.{numberIn, liveIndices}
-use Rattle.guarantee.specs.CaseLists.{plain, turning, smallPlain, smallTurning, smallLabelled, fresh, past, store, answer, gave, listA, listB, listC, listFour, listD, listG, listAdjust, refusedAdjust, listInsert, listSmall, third, listLabelled, listZeros, aNaN, otherNaN, listNaN}
+use Rattle.guarantee.specs.CaseLists.{plain, turning, smallPlain, smallTurning, smallLabelled, fresh, past, store, answer, gave, listA, listB, listC, listFour, listFull, listD, listG, listAdjust, refusedAdjust, listInsert, listSmall, third, listLabelled, listZeros, aNaN, otherNaN, listNaN}
 
 -- the clauses on these lists, computed
 pub record Computed : Type 0 where
@@ -73,23 +73,28 @@ pub record Computed : Type 0 where
   -- (f) with rotation: one live index, and its room of three floats is all used
   pub f-small : freeStartCall (store smallTurning (compact ∷ listSmall)) ≡ is 3
   -- (g), (h): without rotation compaction makes room; with it none is made, and the bound says so
-  pub g-small : answer smallPlain third listSmall ≡ kept 0 none (Whole 2)
+  pub g-small : answer smallPlain third listSmall ≡ kept 0 none (Whole 2) 0
   pub h-small : answer smallTurning third listSmall ≡ refused 10
+  -- (i): a table of five indices and one live point; two that were given up are free again, and one of them is taken; the table is full
+  -- and gains one index, which is taken
+  pub i-b : answer plain (add (3 ∷ 4 ∷ []) 0) listA ≡ kept 0 none (Whole 0) 4
+  pub i-again : answer plain (add (11 ∷ 12 ∷ []) 0) listD ≡ kept 0 none (Joined 2) 2
+  pub i-grown : answer plain (add (13 ∷ 14 ∷ []) 0) listFull ≡ kept 5 none (Joined 5) 0
   -- labels on: a code above 23, a label index not in use, and those that are
   pub label-code : answer smallLabelled (add (3 ∷ 4 ∷ []) 24) [] ≡ refused 4
   pub label-not-used : answer smallLabelled (inc 0 1) listLabelled ≡ refused 6
-  pub label-kept : answer smallLabelled (add (5 ∷ 6 ∷ []) 0) listLabelled ≡ kept 1 1 (Whole 2)
+  pub label-kept : answer smallLabelled (add (5 ∷ 6 ∷ []) 0) listLabelled ≡ kept 1 1 (Whole 2) 0
   pub a-labelled : countCall (store smallLabelled listLabelled) 0 ≡ is 2
   -- −0.0 does not join 0.0: the row is laid whole, and its zero keeps its sign
-  pub zeros-whole : answer smallPlain (add (minusZero ∷ 2 ∷ []) 0) (add (1 ∷ plusZero ∷ []) 0 ∷ []) ≡ kept 1 none (Whole 2)
+  pub zeros-whole : answer smallPlain (add (minusZero ∷ 2 ∷ []) 0) (add (1 ∷ plusZero ∷ []) 0 ∷ []) ≡ kept 1 none (Whole 2) 0
   pub c-zeros : copyCall (store smallPlain listZeros) 1 (replicate 2 0) .out ≡ minusZero ∷ 2 ∷ []
   -- a NaN joins a NaN of the same bits, and its word comes back; one of other bits does not
-  pub nan-joined : answer smallPlain (add (aNaN ∷ 2 ∷ []) 0) (add (1 ∷ aNaN ∷ []) 0 ∷ []) ≡ kept 1 none (Joined 1)
-  pub other-nan-whole : answer smallPlain (add (otherNaN ∷ 2 ∷ []) 0) (add (1 ∷ aNaN ∷ []) 0 ∷ []) ≡ kept 1 none (Whole 2)
+  pub nan-joined : answer smallPlain (add (aNaN ∷ 2 ∷ []) 0) (add (1 ∷ aNaN ∷ []) 0 ∷ []) ≡ kept 1 none (Joined 1) 0
+  pub other-nan-whole : answer smallPlain (add (otherNaN ∷ 2 ∷ []) 0) (add (1 ∷ aNaN ∷ []) 0 ∷ []) ≡ kept 1 none (Whole 2) 0
   pub c-nan : copyCall (store smallPlain listNaN) 1 (replicate 2 0) .out ≡ aNaN ∷ 2 ∷ []
 
 pub computed : Computed
-unfolding fresh openedMemory opened after history recorded changedBy pairChanges pairsChanges joinedPoints rowOfAdd liveIndices everyBelow sumBelow countBelow allEqual pushed changed taken released inside holders isFree inBounds noneShared capacityAllowed stackLent managerWellFormed wrappingSub wrappingAdd alignment zerosBefore pointRoom holds liveBelow moved grownBlocks blocks blockMoves copiedDown settled blockDown blocksDown writtenByBlocks compacted turn turned copied grown writtenCount laidAs laidElements laidFree placeOf overlaps rowToLay movedWindow managed freeUncounted countsFit indexTaken lowered liveNumber codeDecided roomDecided incDecided decDecided raised incTest incremented incSpec pairDecided pairDone adjustFrom adjustSpec decTest placeAfterDec decremented decSpec compactedRows grownRows short roomMade compactSpec copyOf pointLength waits tableFull entriesFilled addDecided windowAfter sequenced rowOf labelGiven labelled tableGrown placed joins overflows laidRows laidHow keptAfter indexGiven keeps addSpec boundsHold rotationAllowed lentEnough formDecided live touchDecided tableLengthWell storeLengthWell freeStartWell emptyUncounted placesDistinct placesEnd sequenceWell wellFormed wordsEqual tableRead tableText numbered classesOf lines line fields field columns column valueFrom digit tableAllowed someBelow largestBelow labelsLent labelsOpened labelsWell differ slotSum labelTaken slotTaken classSlot holdsClass tablesLent codesAllowed slotsHoldClasses classesDistinct slotsSummed labelRaised labelLowered firstBelow reasonClasses inUse liveNumberSpec freeStartSpec countSpec copyDecided copyWritten copySpec
+unfolding fresh openedMemory opened after history recorded changedBy pairChanges pairsChanges joinedPoints rowOfAdd liveIndices everyBelow sumBelow countBelow allEqual pushed changed taken released inside holders isFree freeNumber inBounds noneShared capacityAllowed stackLent managerWellFormed wrappingSub wrappingAdd alignment zerosBefore pointRoom holds liveBelow moved grownBlocks blocks blockMoves copiedDown settled blockDown blocksDown writtenByBlocks compacted turn turned copied grown writtenCount laidAs laidElements laidFree placeOf overlaps rowToLay movedWindow managed freeUncounted countsFit indexTaken lowered liveNumber codeDecided roomDecided incDecided decDecided raised incTest incremented incSpec pairDecided pairDone adjustFrom adjustSpec decTest placeAfterDec decremented decSpec compactedRows grownRows short roomMade compactSpec copyOf pointLength waits tableFull entriesFilled addDecided windowAfter sequenced rowOf labelGiven labelled tableGrown placed joins overflows laidRows laidHow keptAfter indexGiven freeLeft keeps addSpec boundsHold rotationAllowed lentEnough formDecided live touchDecided tableLengthWell storeLengthWell freeStartWell emptyUncounted placesDistinct placesEnd sequenceWell wellFormed wordsEqual tableRead tableText numbered classesOf lines line fields field columns column valueFrom digit tableAllowed someBelow largestBelow labelsLent labelsOpened labelsWell differ slotSum labelTaken slotTaken classSlot holdsClass tablesLent codesAllowed slotsHoldClasses classesDistinct slotsSummed labelRaised labelLowered firstBelow reasonClasses inUse liveNumberSpec freeStartSpec countSpec copyDecided copyWritten copySpec
 computed =
     record {
       d-d = refl;
@@ -112,6 +117,9 @@ computed =
       f-small = refl;
       g-small = refl;
       h-small = refl;
+      i-b = refl;
+      i-again = refl;
+      i-grown = refl;
       label-code = refl;
       label-not-used = refl;
       label-kept = refl;
@@ -140,6 +148,9 @@ pub record Said : Type 0 where
   pub d-incs : past plain listD .incs ≡ 0
   pub d-decs : past plain listD .decs ≡ 2
   pub d-number : liveIndices 10 (past plain listD) ≡ 2
+  -- after D and one add more three of the five indices are live; six of six once the table has grown
+  pub i-again-number : liveIndices 10 (past plain (add (11 ∷ 12 ∷ []) 0 ∷ listD)) ≡ 3
+  pub i-grown-number : liveIndices 10 (past plain (add (13 ∷ 14 ∷ []) 0 ∷ listFull)) ≡ 6
   -- G, with rotation: index 1 is live since the add of 5 6
   pub g-live : past turning listG .life 1 ≡ alive 0 0 (gave listC (3 ∷ 4 ∷ 5 ∷ 6 ∷ []) 1)
   -- the small lists
@@ -150,7 +161,7 @@ pub record Said : Type 0 where
   pub nan : past smallPlain listNaN .life 1 ≡ alive 0 0 (gave listNaN (aNaN ∷ 2 ∷ []) 1)
 
 pub said : Said
-unfolding fresh openedMemory opened after history recorded changedBy pairChanges pairsChanges joinedPoints rowOfAdd liveIndices everyBelow sumBelow countBelow allEqual pushed changed taken released inside holders isFree inBounds noneShared capacityAllowed stackLent managerWellFormed wrappingSub wrappingAdd alignment zerosBefore pointRoom holds liveBelow moved grownBlocks blocks blockMoves copiedDown settled blockDown blocksDown writtenByBlocks compacted turn turned copied grown writtenCount laidAs laidElements laidFree placeOf overlaps rowToLay movedWindow managed freeUncounted countsFit indexTaken lowered liveNumber codeDecided roomDecided incDecided decDecided raised incTest incremented incSpec pairDecided pairDone adjustFrom adjustSpec decTest placeAfterDec decremented decSpec compactedRows grownRows short roomMade compactSpec copyOf pointLength waits tableFull entriesFilled addDecided windowAfter sequenced rowOf labelGiven labelled tableGrown placed joins overflows laidRows laidHow keptAfter indexGiven keeps addSpec boundsHold rotationAllowed lentEnough formDecided live touchDecided tableLengthWell storeLengthWell freeStartWell emptyUncounted placesDistinct placesEnd sequenceWell wellFormed wordsEqual tableRead tableText numbered classesOf lines line fields field columns column valueFrom digit tableAllowed someBelow largestBelow labelsLent labelsOpened labelsWell differ slotSum labelTaken slotTaken classSlot holdsClass tablesLent codesAllowed slotsHoldClasses classesDistinct slotsSummed labelRaised labelLowered firstBelow reasonClasses inUse
+unfolding fresh openedMemory opened after history recorded changedBy pairChanges pairsChanges joinedPoints rowOfAdd liveIndices everyBelow sumBelow countBelow allEqual pushed changed taken released inside holders isFree freeNumber inBounds noneShared capacityAllowed stackLent managerWellFormed wrappingSub wrappingAdd alignment zerosBefore pointRoom holds liveBelow moved grownBlocks blocks blockMoves copiedDown settled blockDown blocksDown writtenByBlocks compacted turn turned copied grown writtenCount laidAs laidElements laidFree placeOf overlaps rowToLay movedWindow managed freeUncounted countsFit indexTaken lowered liveNumber codeDecided roomDecided incDecided decDecided raised incTest incremented incSpec pairDecided pairDone adjustFrom adjustSpec decTest placeAfterDec decremented decSpec compactedRows grownRows short roomMade compactSpec copyOf pointLength waits tableFull entriesFilled addDecided windowAfter sequenced rowOf labelGiven labelled tableGrown placed joins overflows laidRows laidHow keptAfter indexGiven freeLeft keeps addSpec boundsHold rotationAllowed lentEnough formDecided live touchDecided tableLengthWell storeLengthWell freeStartWell emptyUncounted placesDistinct placesEnd sequenceWell wellFormed wordsEqual tableRead tableText numbered classesOf lines line fields field columns column valueFrom digit tableAllowed someBelow largestBelow labelsLent labelsOpened labelsWell differ slotSum labelTaken slotTaken classSlot holdsClass tablesLent codesAllowed slotsHoldClasses classesDistinct slotsSummed labelRaised labelLowered firstBelow reasonClasses inUse
 said =
     record {
       a = refl;
@@ -164,6 +175,8 @@ said =
       d-incs = refl;
       d-decs = refl;
       d-number = refl;
+      i-again-number = refl;
+      i-grown-number = refl;
       g-live = refl;
       small-number = refl;
       labelled = refl;

@@ -6,16 +6,18 @@ use mathlib.Core.Path.{_≡_, refl, ap, _∙_}
 use lib.ListN.{replicate}
 use Rattle.float_bits.specs.Words.{minusZero, wordsEqual, words-exact}
 use Rattle.terms.specs.Below.{sumBelow}
+use Rattle.placement.specs.declared.Laid.the-variants.{Joined}
 use Rattle.placement.specs.Growth.{grown}
 use Rattle.placement.specs.Copying.{turn, turned}
 use Rattle.labels.specs.Decisions.{none}
 use Rattle.store_definitions.specs.declared.Shape.{Shape}
 use Rattle.store_definitions.specs.Answers.{done, is, refused, output}
+use Rattle.store_definitions.specs.Parts.{tableLength}
 use Rattle.guarantee.specs.Calls.{copyCall, countCall, liveNumberCall}
 use Rattle.guarantee.specs.Run.{Call, add, dec, compact}
 use Rattle.guarantee.specs.Guarantee.{countAnswer, numberIn, liveIndices, Guarantee}
 use Rattle.guarantee.specs.Theorem.{guaranteed}
-use Rattle.guarantee.specs.CaseLists.{plain, turning, smallPlain, smallTurning, smallLabelled, rubbish, table, fresh, opening, past, store, gave, listA, listB, listC, listFour, listFive, listD, listG, listAdjust, listInsert, listSmall, third, listLabelled, listZeros, aNaN, listNaN}
+use Rattle.guarantee.specs.CaseLists.{plain, turning, smallPlain, smallTurning, smallLabelled, rubbish, table, fresh, opening, past, store, gave, listA, listB, listC, listFour, listFive, listFull, listD, listG, listAdjust, listInsert, listSmall, third, listLabelled, listZeros, aNaN, listNaN}
 use Rattle.guarantee.specs.Cases.{computed, said}
 
 -- what the guarantee gives of them
@@ -38,6 +40,9 @@ record Gives : Type 0 where
   small-room : store smallTurning (compact ∷ listSmall) .header .«start_free_region» ≤ 3
   -- a live point's room of 3 floats and 2 floats more do not fit the store length, which is the largest
   h-bound : liveIndices 2 (past smallTurning listSmall) * 3 + 2 ≤ grown (store smallTurning listSmall .header .«store_length») 2 4 → ⊥
+  -- of the table's five indices three are live where two are free; the sixth is new and live
+  i-again : 2 + 3 ≡ tableLength (store plain (add (11 ∷ 12 ∷ []) 0 ∷ listD) .header)
+  i-grown : 6 ≡ tableLength (store plain (add (13 ∷ 14 ∷ []) 0 ∷ listFull) .header)
   labelled-count : countCall (store smallLabelled listLabelled) 0 ≡ is 2
   labelled-gone : countCall (store smallLabelled listLabelled) 1 ≡ refused 5
   labelled-copy : copyCall (store smallLabelled listLabelled) 0 (replicate 2 0) ≡ output done (1 ∷ 2 ∷ [])
@@ -83,6 +88,8 @@ gives =
       g-copy = holding-turning listG .copies-row words-exact 1 (gave listC (3 ∷ 4 ∷ 5 ∷ 6 ∷ []) 1) (0, 0, said .g-live) (replicate 4 0) refl;
       small-room = rw (said .small-number) at (holding-small-turning (compact ∷ listSmall) .compact-room listSmall refl);
       h-bound = λ fits. holding-small-turning (third ∷ listSmall) .float-space-within .0 fits (computed .h-small);
+      i-again = rw (said .i-again-number) at (holding (add (11 ∷ 12 ∷ []) 0 ∷ listD) .figures .0 0 none (Joined 2) 2 (computed .i-again));
+      i-grown = rw (said .i-grown-number) at (holding (add (13 ∷ 14 ∷ []) 0 ∷ listFull) .figures .0 5 none (Joined 5) 0 (computed .i-grown));
       labelled-count = holding-labelled listLabelled .counts 0 ∙ ap countAnswer (said .labelled);
       labelled-gone = holding-labelled listLabelled .counts 1 ∙ ap countAnswer (said .labelled-gone);
       labelled-copy = holding-labelled listLabelled .copies-row words-exact 0 (gave (add (1 ∷ 2 ∷ []) 7 ∷ []) (1 ∷ 2 ∷ []) 0) (1, 0, said .labelled) (replicate 2 0) refl;

@@ -11,7 +11,7 @@ use Rattle.store_definitions.specs.Parts.{rowsOf, withRows}
 use Rattle.store_definitions.specs.Decisions.{formDecided, carriedOut}
 use Rattle.store_definitions.specs.Counting.{Pairing, incTest, decTest, incremented, decremented, incSpec, decSpec, adjustFrom, adjustSpec}
 use Rattle.store_definitions.specs.Rows.{compactedRows, roomMade, compactSpec}
-use Rattle.store_definitions.specs.Adding.{AddDecided, keep, wait, refuseAdd, addDecided, rowOf, labelGiven, overflows, laidHow, keptAfter, indexGiven, keeps, addCarriedOut, addSpec}
+use Rattle.store_definitions.specs.Adding.{AddDecided, keep, wait, refuseAdd, addDecided, rowOf, labelGiven, overflows, laidHow, keptAfter, indexGiven, freeLeft, keeps, addCarriedOut, addSpec}
 use Rattle.store_definitions.specs.WellFormed.{wellFormed}
 use Rattle.store_laws.specs.Sound.{Sound}
 use Rattle.store_laws.specs.Cases.{by-cases}
@@ -79,7 +79,7 @@ module _ {E : Type 0} (eq : E → E → Bool) (zeroElement : E) where
         let x = roomMade zeroElement (p .header) (rowsOf p) in
         let row = rowOf p point in
         by-cases (Leaves (add point code)) (overflows eq (p .header) x row) (outcome (refused 10) (withRows x p))
-        (outcome (kept (indexGiven p) (labelGiven p) (laidHow eq (p .header) x row)) (keptAfter eq (roomMade zeroElement (p .header) (rowsOf p)) (rowOf p point) p point code))
+        (outcome (kept (indexGiven p) (labelGiven p) (laidHow eq (p .header) x row) (freeLeft p)) (keptAfter eq (roomMade zeroElement (p .header) (rowsOf p)) (rowOf p point) p point code))
         (λ full now. room-kept eq h then s p w r zeroElement)
         (λ fits now. add-kept eq zeroElement h then s p w r point code k (kept-full p point code e) fits _ refl refl (now _ _))
     add-leaves point code wait e = λ now. wait-kept eq zeroElement h then s p w r point code (waits-on p point code e .sized)

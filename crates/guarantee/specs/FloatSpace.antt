@@ -13,7 +13,7 @@ use Rattle.store_definitions.specs.Memory.{PointStore}
 use Rattle.store_definitions.specs.Answers.{kept, refused, outcome}
 use Rattle.store_definitions.specs.Parts.{baseOf, tableLength, pointTable, rowsOf, withRows}
 use Rattle.store_definitions.specs.Rows.{roomMade}
-use Rattle.store_definitions.specs.Adding.{AddDecided, keep, wait, refuseAdd, addDecided, rowOf, labelGiven, overflows, laidHow, keptAfter, indexGiven, keeps, addCarriedOut, addSpec}
+use Rattle.store_definitions.specs.Adding.{AddDecided, keep, wait, refuseAdd, addDecided, rowOf, labelGiven, overflows, laidHow, keptAfter, indexGiven, freeLeft, keeps, addCarriedOut, addSpec}
 use Rattle.store_definitions.specs.WellFormed.{wellFormed}
 use Rattle.store_laws.specs.Sound.{sound}
 use Rattle.store_laws.specs.RefusalLaws.{add-never, add-refused-ten}
@@ -21,9 +21,9 @@ use Rattle.store_laws.specs.AddDecisionLaws.{keeps-on}
 use Rattle.guarantee.specs.SpaceLaws.{refused-bound, refused-largest, unturned-fits}
 use Rattle.guarantee.specs.EachCallKeeps.{formed}
 
-full-room : {E : Type 0} (b : Bool) (x y : PointStore E) (i l : ℕ) (laid : Laid) → cond b (outcome (refused 10) x) (outcome (kept i l laid) y) .answer ≡ refused 10 → b ≡ true
-full-room true x y i l laid e = refl
-full-room false x y i l laid e = absurd (let z : _≡_ {A = ℕ} 0 1 = cc in omega arith)
+full-room : {E : Type 0} (b : Bool) (x y : PointStore E) (i l : ℕ) (laid : Laid) (left : ℕ) → cond b (outcome (refused 10) x) (outcome (kept i l laid left) y) .answer ≡ refused 10 → b ≡ true
+full-room true x y i l laid left e = refl
+full-room false x y i l laid left e = absurd (let z : _≡_ {A = ℕ} 0 1 = cc in omega arith)
 
 module _ {E : Type 0} (eq : E → E → Bool) (zeroElement : E) (p : PointStore E) (point : List E) (code : ℕ) where
   -- before room is made, nothing is refused with 10
@@ -46,7 +46,7 @@ module _ {E : Type 0} (eq : E → E → Bool) (zeroElement : E) (p : PointStore 
           → (d ≡ keep) × (overflows eq (p .header) (roomMade zeroElement (p .header) (rowsOf p)) (rowOf p point) ≡ true)
       split keep e a = (
         refl,
-        full-room (overflows eq (p .header) (roomMade zeroElement (p .header) (rowsOf p)) (rowOf p point)) (withRows (roomMade zeroElement (p .header) (rowsOf p)) p) (keptAfter eq (roomMade zeroElement (p .header) (rowsOf p)) (rowOf p point) p point code) (indexGiven p) (labelGiven p) (laidHow eq (p .header) (roomMade zeroElement (p .header) (rowsOf p)) (rowOf p point)) a,
+        full-room (overflows eq (p .header) (roomMade zeroElement (p .header) (rowsOf p)) (rowOf p point)) (withRows (roomMade zeroElement (p .header) (rowsOf p)) p) (keptAfter eq (roomMade zeroElement (p .header) (rowsOf p)) (rowOf p point) p point code) (indexGiven p) (labelGiven p) (laidHow eq (p .header) (roomMade zeroElement (p .header) (rowsOf p)) (rowOf p point)) (freeLeft p) a,
       )
       split wait e a = absurd (let z : _≡_ {A = ℕ} 0 1 = cc in omega arith)
       split (refuseAdd n) e a = absurd (decided-not-ten f (e ∙ ap refuseAdd (let q : n ≡ 10 = cc in q)))

@@ -7,11 +7,13 @@ use mathlib.Core.Path.{_≡_}
 use lib.ListN.{length, getD}
 use Rattle.terms.specs.Below.{sumBelow, countBelow}
 use Rattle.terms.specs.Rows.{Exact}
+use Rattle.placement.specs.declared.Laid.{Laid}
 use Rattle.placement.specs.Copying.{turn, turned}
 use Rattle.placement.specs.Growth.{grown}
 use Rattle.store_definitions.specs.declared.Shape.{Shape}
 use Rattle.store_definitions.specs.Memory.{PointStore}
 use Rattle.store_definitions.specs.Answers.{Answer, kept, waiting, done, is, says, refused, refusedAfter, output}
+use Rattle.store_definitions.specs.Parts.{tableLength}
 use Rattle.guarantee.specs.Calls.{copyCall, countCall, liveNumberCall, freeStartCall}
 use Rattle.guarantee.specs.Run.{Call, add, inc, dec, adjust, compact, after, answerTo}
 use Rattle.guarantee.specs.History.{Given, Life, dead, alive, count, isLive, History, history}
@@ -23,7 +25,7 @@ countAnswer (alive incs decs g) = is (count (alive incs decs g))
 
 -- the number that a call answers, 0 for a refusal
 abbrev pub numberIn : Answer → ℕ
-numberIn (kept i l laid) = 0
+numberIn (kept i l laid left) = 0
 numberIn waiting = 0
 numberIn done = 0
 numberIn (is n) = n
@@ -75,6 +77,16 @@ module _ {E : Type 0} (eq : E → E → Bool) (zeroElement : E) (h : Shape) (sta
   NotShortWithin c before =
       liveIndices (h .capacity) (past before) * room + h .dimensions ≤ lengthGrown before → NotShort c before
 
+  -- a kept add's figure and the live indices right after it, the new one among them, make up the table as the add left it
+  abbrev pub RestFree : Call E → List (Call E) → Type 0
+  RestFree (add point code) before =
+      (i l : ℕ) (laid : Laid) (left : ℕ) → answerTo eq zeroElement start (add point code) before ≡ kept i l laid left
+      → left + liveIndices (h .capacity) (past (add point code ∷ before)) ≡ tableLength (storeAfter (add point code ∷ before) .header)
+  RestFree (inc i l) before = Unit {0}
+  RestFree (dec i l) before = Unit {0}
+  RestFree (adjust pairs) before = Unit {0}
+  RestFree compact before = Unit {0}
+
   pub record Guarantee (calls : List (Call E)) : Type 0 where
     -- (a) the count call answers for live indices and no others, with one plus incs less decs accepted since the add that last
     -- gave the index
@@ -101,6 +113,8 @@ module _ {E : Type 0} (eq : E → E → Bool) (zeroElement : E) (h : Shape) (sta
     pub float-space : h .«internal_rotation» ≡ false → EachCall NotShort calls
     -- (h) with it none is while that bound plus dimensions, counted before the add, fits the store length that growth would give
     pub float-space-within : EachCall NotShortWithin calls
+    -- (i) each kept add of the list gave as its figure the table length less the live indices, both right after it
+    pub figures : EachCall RestFree calls
     -- the live-number and free-start calls
     pub live-number : liveNumberCall (storeAfter calls) ≡ is (liveIndices (h .capacity) (past calls))
     pub free-start : freeStartCall (storeAfter calls) ≡ is (storeAfter calls .header .«start_free_region»)

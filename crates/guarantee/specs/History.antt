@@ -21,7 +21,7 @@ pub data Change : Type 0 where
 
 -- a kept add gives its index
 abbrev pub addChanges : Answer → List Change
-addChanges (kept i l laid) = gave i ∷ []
+addChanges (kept i l laid left) = gave i ∷ []
 addChanges waiting = []
 addChanges done = []
 addChanges (is n) = []
@@ -31,7 +31,7 @@ addChanges (refusedAfter n k) = []
 
 -- an inc or a dec counts where it is accepted
 abbrev pub ifDone : Answer → Change → List Change
-ifDone (kept i l laid) c = []
+ifDone (kept i l laid left) c = []
 ifDone waiting c = []
 ifDone done c = c ∷ []
 ifDone (is n) c = []
@@ -41,7 +41,7 @@ ifDone (refusedAfter n k) c = []
 
 -- the pairs of an adjust that stand: all of them, or those before the refused one
 abbrev pub standing : Answer → List Pairing → List Pairing
-standing (kept i l laid) qs = []
+standing (kept i l laid left) qs = []
 standing waiting qs = []
 standing done qs = qs
 standing (is n) qs = []
@@ -72,7 +72,7 @@ module _ {E : Type 0} where
 
   -- kept and waiting adds are accepted
   abbrev pub pointsWith : List E → Answer → List (List E) → List (List E)
-  pointsWith point (kept i l laid) points = point ∷ points
+  pointsWith point (kept i l laid left) points = point ∷ points
   pointsWith point waiting points = point ∷ points
   pointsWith point done points = points
   pointsWith point (is n) points = points
@@ -100,7 +100,7 @@ module _ {E : Type 0} where
 
 -- 'the place in the add's result'
 abbrev pub placeIn : Answer → ℕ
-placeIn (kept i l laid) = placeOf laid
+placeIn (kept i l laid left) = placeOf laid
 placeIn waiting = 0
 placeIn done = 0
 placeIn (is n) = 0

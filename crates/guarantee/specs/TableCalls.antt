@@ -1,5 +1,5 @@
 -- A kept add's index: taken from a table, grown or as it was, it keeps the invariant.
-use Prim.Native.Nat.{ℕ, zero, suc, _+_, _/_, _≤_, _<_}
+use Prim.Native.Nat.{ℕ, _+_, _/_, _≤_, _<_}
 use native.Mathlib.Decide.{decLt, ℕ-discrete}
 use native.Mathlib.Omega.{arith}
 use mathlib.Core.Bool.{Bool, true, cond}
@@ -21,20 +21,11 @@ use Rattle.store_definitions.specs.Parts.{baseOf, tableLength, withPoints}
 use Rattle.store_definitions.specs.Rows.{copyOf, copySpec}
 use Rattle.store_definitions.specs.Adding.{placed}
 use Rattle.store_laws.specs.Sound.{Sound}
+use Rattle.store_laws.specs.FigureLaws.{sum-grown}
 use Rattle.guarantee.specs.History.{Given, alive, count, isLive, History, gave, changed}
 use Rattle.guarantee.specs.LifeLaws.{dead-count}
 use Rattle.guarantee.specs.Relates.{copyAnswer, CopyStands, Relates}
 use Rattle.guarantee.specs.CopyLaws.{copy-answer}
-
--- what is 0 from n up to d adds nothing there
-sum-grown : (n d : ℕ) (f : ℕ → ℕ) → ((i : ℕ) → n ≤ i → i < d → f i ≡ 0) → n ≤ d → sumBelow d f ≡ sumBelow n f
-unfolding sumBelow
-sum-grown n zero f z h = let e : n ≡ 0 = omega arith in rw e
-sum-grown n (suc d) f z h =
-    elim (decLt d n) [
-      | yes l ↦ let e : n ≡ suc d = omega arith in rw e
-      | no g ↦ omega (arith, sum-grown n d f (λ i a b. z i a (omega arith)) (omega arith), z d (omega arith) (omega arith))
-    ]
 
 -- a table with places in which every index of the store has its count and its place, and new ones have count 0
 pub record Grown {E : Type 0} (p : PointStore E) (n : ℕ) (t : Counted) (location : List ℕ) : Type 0 where

@@ -22,11 +22,12 @@ use Rattle.store_definitions.specs.Counting.{countSpec, liveNumberSpec, freeSta
 use Rattle.store_definitions.specs.Rows.{copyOf, compactSpec, compactedRows}
 use Rattle.store_definitions.specs.WellFormed.{wellFormed}
 use Rattle.store_laws.specs.Sound.{Sound, sound, place-ends}
+use Rattle.store_laws.specs.FigureLaws.{figure-and-live}
 use Rattle.store_laws.specs.OpeningLaws.{open-accepted, open-done, opening-well-formed}
 use Rattle.guarantee.specs.Calls.{openCall, copyCall, countCall, liveNumberCall, freeStartCall}
 use Rattle.guarantee.specs.Run.{Call, add, inc, dec, adjust, compact, after}
 use Rattle.guarantee.specs.History.{Given, Life, dead, alive, count, isLive, History, history, recorded, changedBy, nothing}
-use Rattle.guarantee.specs.Guarantee.{countAnswer, numberIn, LiveSince, liveIndices, EachCall, NotShort, NotShortWithin, Guarantee}
+use Rattle.guarantee.specs.Guarantee.{countAnswer, numberIn, LiveSince, liveIndices, EachCall, NotShort, NotShortWithin, RestFree, Guarantee}
 use Rattle.guarantee.specs.LifeLaws.{dead-count}
 use Rattle.guarantee.specs.Relates.{copyAnswer, Relates}
 use Rattle.guarantee.specs.RoomLaws.{compact-free}
@@ -171,6 +172,18 @@ module _ {E : Type 0} (eq : E → E → Bool) (zeroElement : E) (h : Shape) (sta
           relates = call-kept eq zeroElement h then calls s p w r c (holds .well-formed) (λ row place. refl);
         }
 
+    -- (i)
+    rest-free : (c : Call E) → RestFree eq zeroElement h start c calls
+    unfolding after
+    rest-free (add point code) = λ i l laid left e.
+        let q = storeAfter (add point code ∷ calls) in
+        let now = step (add point code) in
+        omega (arith, figure-and-live eq zeroElement p point code (holds .well-formed) i l laid left e, live-number-is eq h then (past (add point code ∷ calls)) q (sound q (now .well-formed)) (now .relates))
+    rest-free (inc i l) = tt
+    rest-free (dec i l) = tt
+    rest-free (adjust qs) = tt
+    rest-free compact = tt
+
   module _ (text : List ℕ) (m : Memory E) (accepted : openCall zeroElement h text m ≡ outcome done start) where
     begin : Holds []
     unfolding after history
@@ -193,6 +206,10 @@ module _ {E : Type 0} (eq : E → E → Bool) (zeroElement : E) (h : Shape) (sta
     within [] = tt
     within (c ∷ calls) = (not-short-within calls (run calls) c, within calls)
 
+    figures : (calls : List (Call E)) → EachCall (RestFree eq zeroElement h start) calls
+    figures [] = tt
+    figures (c ∷ calls) = (rest-free calls (run calls) c, figures calls)
+
     -- the list guarantee
     pub guaranteed : (calls : List (Call E)) → Guarantee eq zeroElement h start calls
     unfolding pointRoom
@@ -210,6 +227,7 @@ module _ {E : Type 0} (eq : E → E → Bool) (zeroElement : E) (h : Shape) (sta
           compact-room = λ before e. subst (λ (cs : List (Call E)). storeAfter cs .header .«start_free_region» ≤ liveIndices (h .capacity) (past cs) * pointRoom (h .«internal_rotation») (h .dimensions) (h .dimensions / h .«shingle_size»)) (sym e) (compact-room before (run before));
           float-space = λ off. unturned off calls;
           float-space-within = within calls;
+          figures = figures calls;
           live-number = live-number calls holds;
           free-start = free-start calls holds;
         }

@@ -31,7 +31,7 @@ use Rattle.hold_definitions.specs.AddingLaws.{length-more}
 use Rattle.hold.specs.declared.keep.Given.{Given}
 
 abbrev pub givenIn : Answer → Given
-givenIn (kept i l laid) = record { kept = true; index = i; label = l }
+givenIn (kept i l laid left) = record { kept = true; index = i; label = l }
 givenIn waiting = record { kept = false; index = 0; label = 0 }
 givenIn done = record { kept = false; index = 0; label = 0 }
 givenIn (is n) = record { kept = false; index = 0; label = 0 }
@@ -51,7 +51,7 @@ module _ {E : Type 0} where
 
   pub kept-if : (h : PointHold E) (a : Answer) (q : PointStore E) → keptIf (givenIn a) h q ≡ heldAfter h a q
   unfolding keptIf
-  kept-if h (kept i l laid) q = refl
+  kept-if h (kept i l laid left) q = refl
   kept-if h waiting q = refl
   kept-if h done q = refl
   kept-if h (is n) q = refl
@@ -166,7 +166,7 @@ module _ {E : Type 0} where
     never e = absurd (let z : _≡_ {A = ℕ} 0 1 = cc in omega arith)
 
     keep-ready : (a : Answer) → Leaves (storeOf h) a q → KeepReady (givenIn a) h q
-    keep-ready (kept i l laid) g e = point-ready i l g
+    keep-ready (kept i l laid left) g e = point-ready i l g
     keep-ready waiting c e = never e
     keep-ready done c e = never e
     keep-ready (is n) c e = never e

@@ -6,8 +6,9 @@ ghost use Rattle.float_bits.specs.Words.{wordsEqual};
 ghost use Rattle.hold_definitions.specs.Adding.{holdAdded, holdAddSpec};
 ghost use Rattle.hold_definitions.specs.Answers.{holdOutcome};
 ghost use Rattle.hold_definitions.specs.Lent.{holdHeld, holdEntered, holdLeft};
-ghost use Rattle.hold_definitions.specs.Memory.{pointHold};
+ghost use Rattle.hold_definitions.specs.Memory.{pointHold, storeOf};
 ghost use Rattle.hold_definitions.specs.WellFormed.{holdWellFormed};
+ghost use Rattle.store_check.specs.Figures.{FiguresOf};
 ghost use Rattle.store_definitions.specs.Adding.{addSpec};
 ghost use Rattle.store_definitions.specs.Answers.{addedMeans};
 ghost use Rattle.store_definitions.specs.Lent.{entered};
@@ -22,6 +23,7 @@ use hold_definitions::HoldAddResult;
 use keep::given_by;
 use keep::keep_point;
 use store_add::add_unchecked;
+use store_check::Figures;
 use store_definitions::Added;
 use terms::FloatBits;
 use terms::Refusal;
@@ -48,8 +50,9 @@ fn add_checked(
     held_labels: &mut [u16],
     point: &[FloatBits],
     label: usize,
+    figures: Figures,
 ) -> HoldAddResult
-    requires { ⌜ holdWellFormed (pointHold h (holdHeld store «last_known_shingle» «reference_count» location «index_starts» «index_ends» labels «label_attributes» «label_count» «label_starts» «label_ends» attributes «attribute_count» «attribute_starts» «attribute_ends» «held_indices» «held_labels»)) ≡ true ⌝ }
+    requires { ⌜ (holdWellFormed (pointHold h (holdHeld store «last_known_shingle» «reference_count» location «index_starts» «index_ends» labels «label_attributes» «label_count» «label_starts» «label_ends» attributes «attribute_count» «attribute_starts» «attribute_ends» «held_indices» «held_labels»)) ≡ true) × FiguresOf figures (storeOf (pointHold h (holdHeld store «last_known_shingle» «reference_count» location «index_starts» «index_ends» labels «label_attributes» «label_count» «label_starts» «label_ends» attributes «attribute_count» «attribute_starts» «attribute_ends» «held_indices» «held_labels»))) ⌝ }
     ensures { λ r. ⌜ holdOutcome (addedMeans (r .answer)) (pointHold (r .hold) (holdLeft store «last_known_shingle» «reference_count» location «index_starts» «index_ends» labels «label_attributes» «label_count» «label_starts» «label_ends» attributes «attribute_count» «attribute_starts» «attribute_ends» «held_indices» «held_labels»)) ≡ holdAdded (pointHold h (holdEntered store «last_known_shingle» «reference_count» location «index_starts» «index_ends» labels «label_attributes» «label_count» «label_starts» «label_ends» attributes «attribute_count» «attribute_starts» «attribute_ends» «held_indices» «held_labels»)) (addSpec wordsEqual 0 (pointStore (h .store) (entered store «last_known_shingle» «reference_count» location «index_starts» «index_ends» labels «label_attributes» «label_count» «label_starts» «label_ends» attributes «attribute_count» «attribute_starts» «attribute_ends»)) (now (point .entry)) label) ⌝ }
 {
     let s = h.store;
@@ -72,6 +75,7 @@ fn add_checked(
         attribute_ends,
         point,
         label,
+        figures,
     );
     let after = added.store;
     let answer = added.answer;
@@ -125,7 +129,7 @@ pub fn add(
 ) -> HoldAddResult
     ensures { λ r. ⌜ holdOutcome (addedMeans (r .answer)) (pointHold (r .hold) (holdLeft store «last_known_shingle» «reference_count» location «index_starts» «index_ends» labels «label_attributes» «label_count» «label_starts» «label_ends» attributes «attribute_count» «attribute_starts» «attribute_ends» «held_indices» «held_labels»)) ≡ holdAddSpec wordsEqual 0 (pointHold h (holdEntered store «last_known_shingle» «reference_count» location «index_starts» «index_ends» labels «label_attributes» «label_count» «label_starts» «label_ends» attributes «attribute_count» «attribute_starts» «attribute_ends» «held_indices» «held_labels»)) (now (point .entry)) label ⌝ }
 {
-    if check_hold(
+    let checked = check_hold(
         h,
         store,
         last_known_shingle,
@@ -144,7 +148,10 @@ pub fn add(
         attribute_ends,
         held_indices,
         held_labels,
-    ) {
+    );
+    let ok = checked.ok;
+    if ok {
+        let figures = checked.figures;
         return add_checked(
             h,
             store,
@@ -166,6 +173,7 @@ pub fn add(
             held_labels,
             point,
             label,
+            figures,
         );
     }
     HoldAddResult {

@@ -1,8 +1,8 @@
--- What places that rise along a list say of the table that they are found in.
+-- The record's tests put together, and what places that rise along a list say of the table that they are found in.
 use Prim.Native.Nat.{ℕ, _≤_}
-use mathlib.Core.Bool.{Bool, true}
+use mathlib.Core.Bool.{Bool, true, false, cond, _&&_}
 use mathlib.Core.List.{List}
-use mathlib.Core.Path.{_≡_, sym, _∙_}
+use mathlib.Core.Path.{_≡_, sym, _∙_, ap₂}
 use lib.ListN.{length, take}
 use lib.Seq.{length-take-le}
 use Rattle.terms.specs.Below.{both}
@@ -10,8 +10,17 @@ use Rattle.labels.specs.Counted.{counted, managed, freeUncounted}
 use Rattle.store_definitions.specs.declared.Store.{Store}
 use Rattle.store_definitions.specs.Parts.{tableLength}
 use Rattle.store_definitions.specs.WellFormed.{emptyUncounted, placesDistinct, placesEnd}
+use Rattle.class_table.specs.Table.{tableAllowed}
+use Rattle.store_check.specs.CheckLaws.{recordTest, numbersTest, record-parts}
 use Rattle.store_check.specs.PointsTest.{tableTest, TableFound}
 use Rattle.hold_check.specs.Rising.{Rises, ListRises, rising-distinct, rising-listed}
+
+pub record-tested : (s : Store) (floats window counts places starts ends : ℕ) (table numbers : Bool) {b : Bool} → table ≡ tableAllowed (s .classes) → numbers ≡ numbersTest s floats window counts places starts ends → (table && numbers) ≡ b → recordTest s floats window counts places starts ends ≡ b
+record-tested s floats window counts places starts ends table numbers e f t =
+    record-parts s floats window counts places starts ends ∙ ap₂ (λ (x y : Bool). x && y) (sym e) (sym f) ∙ t
+
+pub labels-off : (on half : Bool) → on ≡ false → true ≡ cond on half true
+labels-off on half e = rw e
 
 module _ (s : Store) (counts location starts ends : List ℕ) where
   abbrev n : ℕ

@@ -3,14 +3,13 @@ use Prim.Native.Nat.{ℕ, _≤_, _<_}
 use native.Mathlib.Decide.{decLt, ℕ-discrete}
 use native.Mathlib.Omega.{arith}
 use mathlib.Core.Bool.{Bool, true, false, cond, not, _&&_}
-use mathlib.Core.List.{List, [], _∷_}
+use mathlib.Core.List.{List}
 use mathlib.Core.Path.{_≡_, refl, sym, ap, _∙_}
 use lib.ListN.{length, getD, take}
 use lib.Seq.{length-take-le}
 use lib.Dec.{leb, ltb, eqb}
 use borrow.Author.Tests.{eq-eqb, ne-eqb, eqb-true, ltb-true, leb-true}
-use Rattle.terms.specs.Below.{one, both, and-make, sumBelow, countBelow, sum-same, sum-add, sum-zeros, sum-tight}
-use Rattle.terms.specs.Sums.{sum-changed}
+use Rattle.terms.specs.Below.{one, both, and-make, countBelow, sum-same, sum-tight}
 use Rattle.store_definitions.specs.Memory.{PointStore}
 use Rattle.store_definitions.specs.Parts.{tableLength}
 use Rattle.store_definitions.specs.WellFormed.{wellFormed}
@@ -18,29 +17,11 @@ use Rattle.store_laws.specs.Cases.{asked}
 use Rattle.store_laws.specs.Sound.{sound}
 use Rattle.store_check.specs.Entries.{countsLive}
 use Rattle.hold_definitions.specs.Memory.{PointHold, storeOf, indicesOf, labelsOf}
-use Rattle.hold_definitions.specs.Listed.{times}
+use Rattle.hold_definitions.specs.Listed.{times, sum-times}
 use Rattle.hold_definitions.specs.WellFormed.{widthAllowed, tablesLent, namesLivePoints, countedOnce, ownLabels, holdWellFormed}
 use Rattle.hold_definitions.specs.CountsAfter.{countNow, counted-below, counted-past, counted-inside}
 use Rattle.hold_definitions.specs.Sound.{names-counts, names-once, names-make, counted-make, own-sound, own-make}
 use Rattle.hold_check.specs.ListedOnce.{listedOnce, same-test, Once, listed-sound, listed-make}
-
--- the entries of a list below n, counted index by index
-module _ (n : ℕ) where
-  one-entry : (x : ℕ) → x < n → sumBelow n (λ i. one (eqb x i)) ≡ 1
-  one-entry x h =
-      let zeros = sum-zeros n in
-      let change = sum-changed n x (λ i. 0) (λ i. one (eqb x i)) h (λ k l d. rw (ne-eqb x k (λ e. d (sym e)))) in
-      let self : one (eqb x x) ≡ 1 = rw (eq-eqb x x refl) in
-      omega (arith, change, zeros, self)
-
-  pub sum-times : (xs : List ℕ) → ((i : ℕ) → 0 < times i xs → i < n) → sumBelow n (λ i. times i xs) ≡ length xs
-  unfolding times
-  sum-times [] f = sum-zeros n
-  sum-times (x ∷ xs) f =
-      let self : one (eqb x x) ≡ 1 = rw (eq-eqb x x refl) in
-      let first = one-entry x (f x (omega (arith, self))) in
-      let rest = sum-times xs (λ i h. f i (omega arith)) in
-      omega (arith, sum-add n (λ i. one (eqb x i)) (λ i. times i xs), first, rest)
 
 module _ {E : Type 0} (p : PointStore E) (xs : List ℕ) where
   abbrev n : ℕ

@@ -1,3 +1,4 @@
 pub mod ListedOnce
 pub mod CheckLaws
 pub mod Rising
+pub mod Runs

@@ -13,9 +13,8 @@ use Rattle.terms.specs.Below.{one, everyBelow, every-at, every-make, sumBelow, 
 use Rattle.terms.specs.Entries.{any-default}
 use Rattle.store_definitions.specs.WellFormed.{emptyUncounted, placesDistinct}
 use Rattle.store_check.specs.Entries.{countsLive}
-use Rattle.hold_definitions.specs.Listed.{times, times-self, times-more, times-other}
+use Rattle.hold_definitions.specs.Listed.{times, sum-times, times-self, times-more, times-other}
 use Rattle.hold_check.specs.ListedOnce.{listedOnce, same-test, listed-sound, listed-make}
-use Rattle.hold_check.specs.CheckLaws.{sum-times}
 
 -- the entries of a list are below n, at places that rise and stay below a bound
 pub record Rises (n bound : ℕ) (location xs : List ℕ) : Type 0 where

@@ -3,12 +3,15 @@ ghost use mathlib.Core.Bool.{true, cond};
 ghost use mathlib.Core.Path.{_≡_};
 ghost use lib.Dec.{leb};
 ghost use Rattle.hold_definitions.specs.Lent.{holdEntered};
-ghost use Rattle.hold_definitions.specs.Memory.{pointHold};
+ghost use Rattle.hold_definitions.specs.Memory.{pointHold, storeOf};
 ghost use Rattle.hold_definitions.specs.WellFormed.{holdWellFormed};
+ghost use Rattle.store_check.specs.Figures.{FiguresOf};
 ghost use Rattle.hold_check.specs.CheckLaws.{recordHolds};
 use crate::list::list_well;
 use crate::store::store_well;
 use hold_definitions::Hold;
+use labels::LabelsFree;
+use store_check::Figures;
 use terms::FloatBits;
 
 // With labels off the table of label indices is not looked at.
@@ -36,6 +39,12 @@ fn record_holds(
     ((1 <= width) & (width < capacity)) & (((capacity <= indices) & labelled) & (held <= width))
 }
 
+// What the check finds: whether the hold is well-formed, and then what was counted of its store.
+pub struct HoldChecked {
+    pub ok: bool,
+    pub figures: Figures,
+}
+
 pub fn check_hold(
     h: Hold,
     store: &[FloatBits],
@@ -55,8 +64,8 @@ pub fn check_hold(
     attribute_ends: &[u16],
     held_indices: &[u16],
     held_labels: &[u16],
-) -> bool
-    ensures { λ r. ⌜ r ≡ holdWellFormed (pointHold h (holdEntered store «last_known_shingle» «reference_count» location «index_starts» «index_ends» labels «label_attributes» «label_count» «label_starts» «label_ends» attributes «attribute_count» «attribute_starts» «attribute_ends» «held_indices» «held_labels»)) ⌝ }
+) -> HoldChecked
+    ensures { λ r. ⌜ (r .ok ≡ holdWellFormed (pointHold h (holdEntered store «last_known_shingle» «reference_count» location «index_starts» «index_ends» labels «label_attributes» «label_count» «label_starts» «label_ends» attributes «attribute_count» «attribute_starts» «attribute_ends» «held_indices» «held_labels»))) × ((r .ok ≡ true → FiguresOf (r .figures) (storeOf (pointHold h (holdEntered store «last_known_shingle» «reference_count» location «index_starts» «index_ends» labels «label_attributes» «label_count» «label_starts» «label_ends» attributes «attribute_count» «attribute_starts» «attribute_ends» «held_indices» «held_labels»))))) ⌝ }
 {
     let s = h.store;
     if record_holds(
@@ -89,9 +98,10 @@ pub fn check_hold(
         );
         let well = checked.ok;
         if well {
-            return list_well(
+            let figures = checked.figures;
+            let ok = list_well(
                 checked.rises,
-                checked.live,
+                figures.live,
                 h.held,
                 s.index_manager.capacity,
                 s.capacity,
@@ -101,7 +111,17 @@ pub fn check_hold(
                 held_indices,
                 held_labels,
             );
+            return HoldChecked { ok, figures };
         }
     }
-    false
+    HoldChecked {
+        ok: false,
+        figures: Figures {
+            live: 0,
+            free: LabelsFree {
+                labels: 0,
+                slots: 0,
+            },
+        },
+    }
 }

@@ -6,6 +6,7 @@ mod read;
 mod rise;
 mod store;
 
+pub use check::HoldChecked;
 pub use check::check_hold;
 pub use read::held;
 pub use read::held_number;

@@ -49,7 +49,7 @@ pub fn held(
 ) -> Done
     ensures { λ r. ⌜ output (doneMeans r) (now (out .exit)) ≡ heldSpec (pointHold h (holdEntered store «last_known_shingle» «reference_count» location «index_starts» «index_ends» labels «label_attributes» «label_count» «label_starts» «label_ends» attributes «attribute_count» «attribute_starts» «attribute_ends» «held_indices» «held_labels»)) (now (out .entry)) ⌝ }
 {
-    if check_hold(
+    let checked = check_hold(
         h,
         store,
         last_known_shingle,
@@ -68,7 +68,9 @@ pub fn held(
         attribute_ends,
         held_indices,
         held_labels,
-    ) {
+    );
+    let ok = checked.ok;
+    if ok {
         if out.len() == h.held {
             copy_list(held_indices, out);
             return Done::Done;
@@ -101,7 +103,7 @@ pub fn held_number(
 ) -> Number
     ensures { λ r. ⌜ numberMeans r ≡ heldNumberSpec (pointHold h (holdEntered store «last_known_shingle» «reference_count» location «index_starts» «index_ends» labels «label_attributes» «label_count» «label_starts» «label_ends» attributes «attribute_count» «attribute_starts» «attribute_ends» «held_indices» «held_labels»)) ⌝ }
 {
-    if check_hold(
+    let checked = check_hold(
         h,
         store,
         last_known_shingle,
@@ -120,7 +122,9 @@ pub fn held_number(
         attribute_ends,
         held_indices,
         held_labels,
-    ) {
+    );
+    let ok = checked.ok;
+    if ok {
         return Number::Is(h.held);
     }
     Number::Refused(Refusal::IllFormed)

@@ -7,23 +7,34 @@ ghost use Rattle.store_definitions.specs.Memory.{pointStore};
 ghost use Rattle.store_definitions.specs.Parts.{tableLength};
 ghost use Rattle.store_definitions.specs.WellFormed.{wellFormed, placesDistinct};
 ghost use Rattle.store_check.specs.Entries.{countsLive, PlacesBelow};
+ghost use Rattle.store_check.specs.Figures.{FiguresOf};
 ghost use Rattle.store_check.specs.PointsTest.{pointsTest, PointsReady};
 ghost use Rattle.store_check.specs.Tables.{tablesAtEntry};
 ghost use Rattle.hold_check.specs.Rising.{ListRises};
 use crate::rise::live_rise;
+use class_table::table_allowed;
 use label_check::labels_well_formed;
 use labels::LabelManagers;
+use labels::LabelsFree;
+use store_check::Figures;
 use store_check::Lengths;
+use store_check::numbers_well;
 use store_check::places_distinct;
-use store_check::record_well;
 use store_check::table_well;
 use store_definitions::Store;
 
-// What is found: whether the store is well-formed, and then how many points are live and whether places rise along the list.
+// What is found: whether the store is well-formed, and then what was counted and whether places rise along the list.
 pub struct StoreListed {
     pub ok: bool,
-    pub live: usize,
+    pub figures: Figures,
     pub rises: bool,
+}
+
+// The same of the points alone.
+struct PointsListed {
+    ok: bool,
+    live: usize,
+    rises: bool,
 }
 
 // Places that rise are distinct; others are held against each other with marks.
@@ -45,7 +56,7 @@ fn points_listed(
     index_ends: &[u16],
     held: usize,
     held_indices: &[u16],
-) -> StoreListed
+) -> PointsListed
     requires { ⌜ PointsReady s (now «reference_count») (now location) × (held ≤ length (now «held_indices»)) ⌝ }
     ensures { λ r. ⌜ (r .ok ≡ pointsTest s (now («reference_count» .entry)) (now (location .entry)) (now («index_starts» .entry)) (now («index_ends» .entry))) × ((r .ok ≡ true → (r .live ≡ countsLive (tableLength s) (now («reference_count» .entry))) × ListRises (tableLength s) held (r .live) (now («reference_count» .entry)) (now («held_indices» .entry)) (r .rises))) ⌝ }
 {
@@ -55,13 +66,13 @@ fn points_listed(
         let n = s.index_manager.capacity;
         let rises = live_rise(table.live, n, held, location, held_indices);
         let ok = distinct(rises, n, table.limit, location);
-        return StoreListed {
+        return PointsListed {
             ok,
             live: table.live,
             rises,
         };
     }
-    StoreListed {
+    PointsListed {
         ok: false,
         live: 0,
         rises: false,
@@ -89,7 +100,7 @@ pub fn store_well(
     held_indices: &[u16],
 ) -> StoreListed
     requires { ⌜ held ≤ length (now «held_indices») ⌝ }
-    ensures { λ r. ⌜ (r .ok ≡ wellFormed (pointStore s (tablesAtEntry floats window «reference_count» location «index_starts» «index_ends» labels «label_attributes» «label_count» «label_starts» «label_ends» attributes «attribute_count» «attribute_starts» «attribute_ends»))) × ((r .ok ≡ true → (r .live ≡ countsLive (tableLength s) (now («reference_count» .entry))) × ListRises (tableLength s) held (r .live) (now («reference_count» .entry)) (now («held_indices» .entry)) (r .rises))) ⌝ }
+    ensures { λ r. ⌜ (r .ok ≡ wellFormed (pointStore s (tablesAtEntry floats window «reference_count» location «index_starts» «index_ends» labels «label_attributes» «label_count» «label_starts» «label_ends» attributes «attribute_count» «attribute_starts» «attribute_ends»))) × ((r .ok ≡ true → FiguresOf (r .figures) (pointStore s (tablesAtEntry floats window «reference_count» location «index_starts» «index_ends» labels «label_attributes» «label_count» «label_starts» «label_ends» attributes «attribute_count» «attribute_starts» «attribute_ends»)) × ListRises (tableLength s) held (r .figures .live) (now («reference_count» .entry)) (now («held_indices» .entry)) (r .rises))) ⌝ }
 {
     let lent = Lengths {
         floats,
@@ -99,7 +110,10 @@ pub fn store_well(
         starts: index_starts.len(),
         ends: index_ends.len(),
     };
-    if record_well(s, lent) {
+    let classes = s.classes;
+    let table = table_allowed(classes);
+    let numbers = numbers_well(s, lent);
+    if table & numbers {
         let points = points_listed(
             s,
             reference_count,
@@ -111,37 +125,61 @@ pub fn store_well(
         );
         let well = points.ok;
         if well {
-            let label_manager = s.label_manager;
-            let attribute_manager = s.attribute_manager;
-            let managers = LabelManagers {
-                label_manager,
-                attribute_manager,
-            };
-            let ok = labels_well_formed(
-                s.store_labels,
-                &s.classes,
-                s.capacity,
-                managers,
-                labels,
-                label_attributes,
-                label_count,
-                label_starts,
-                label_ends,
-                attributes,
-                attribute_count,
-                attribute_starts,
-                attribute_ends,
-            );
+            // With labels off nothing is handed on: the slices of a call cost more than the call.
+            if s.store_labels {
+                let label_manager = s.label_manager;
+                let attribute_manager = s.attribute_manager;
+                let managers = LabelManagers {
+                    label_manager,
+                    attribute_manager,
+                };
+                let half = labels_well_formed(
+                    s.store_labels,
+                    &s.classes,
+                    s.capacity,
+                    managers,
+                    labels,
+                    label_attributes,
+                    label_count,
+                    label_starts,
+                    label_ends,
+                    attributes,
+                    attribute_count,
+                    attribute_starts,
+                    attribute_ends,
+                );
+                let free = half.free;
+                return StoreListed {
+                    ok: half.ok,
+                    figures: Figures {
+                        live: points.live,
+                        free,
+                    },
+                    rises: points.rises,
+                };
+            }
             return StoreListed {
-                ok,
-                live: points.live,
+                ok: true,
+                figures: Figures {
+                    live: points.live,
+                    free: LabelsFree {
+                        labels: 0,
+                        slots: 0,
+                    },
+                },
                 rises: points.rises,
             };
         }
     }
     StoreListed {
         ok: false,
-        live: 0,
+        figures: Figures {
+            live: 0,
+            free: LabelsFree {
+                labels: 0,
+                slots: 0,
+            },
+        },
         rises: false,
     }
 }

@@ -1,5 +1,6 @@
 -- 'each kept add gives up the oldest held point once more than W are held, after the add has succeeded, so that a refused add gives
--- up nothing. Waiting adds give up nothing. A hold add answers as its store's add does'.
+-- up nothing. Waiting adds give up nothing. A hold add answers as its store's add does', so its figure is the one 'as it stood before the
+-- oldest was given up'.
 use Prim.Native.Nat.{ℕ}
 use mathlib.Core.Bool.{Bool, cond}
 use mathlib.Core.List.{List, [], _∷_, _++_}
@@ -56,7 +57,7 @@ module _ {E : Type 0} where
 
   -- the hold after its store's add: a kept one alone touches the list
   abbrev pub heldAfter : PointHold E → Answer → PointStore E → PointHold E
-  heldAfter h (kept i l laid) p = holding h (indicesOf h ++ i ∷ []) (labelsOf h ++ l ∷ []) p
+  heldAfter h (kept i l laid left) p = holding h (indicesOf h ++ i ∷ []) (labelsOf h ++ l ∷ []) p
   heldAfter h waiting p = withStore p h
   heldAfter h done p = withStore p h
   heldAfter h (is n) p = withStore p h

@@ -10,6 +10,7 @@ use lib.Dec.{ltb}
 use borrow.Author.Tests.{ltb-false}
 use Rattle.store_definitions.specs.Memory.{PointStore}
 use Rattle.store_definitions.specs.Answers.{Answer, kept, waiting, done, is, says, refused, refusedAfter, outcome}
+use Rattle.store_definitions.specs.Parts.{tableLength}
 use Rattle.store_definitions.specs.Decisions.{formDecided}
 use Rattle.store_definitions.specs.Adding.{addSpec}
 use Rattle.store_definitions.specs.Counting.{decSpec}
@@ -23,7 +24,7 @@ use Rattle.hold_definitions.specs.WellFormed.{holdWellFormed}
 use Rattle.hold_definitions.specs.Adding.{writtenTo, withStore, withList, oldestLabel, gaveUp, holding, heldAfter, holdAdded, holdAddSpec}
 use Rattle.hold_definitions.specs.CountsAfter.{SameShape, SameCounts, Gained, Leaves, add-leaves}
 use Rattle.hold_definitions.specs.Sound.{Names, HoldSound, hold-sound, hold-sound-make}
-use Rattle.hold_definitions.specs.NamesLaws.{names-same, gained-names, oldest-decided, given-up-sound, given-up-shape, given-up-names}
+use Rattle.hold_definitions.specs.NamesLaws.{names-same, gained-names, oldest-decided, given-up-sound, given-up-shape, given-up-length, given-up-names}
 
 -- a list written to a table that is long enough
 written-length : (table xs : List ℕ) → length xs ≤ length table → length (writtenTo table xs) ≡ length table
@@ -134,9 +135,17 @@ module _ {E : Type 0} where
           fewer-labels)
           (λ room. listed-sound q f (g .shape) xs ls n (ltb-false (h .header .width) (length xs) room) longer-labels)
 
+      -- giving up a point leaves the table as long as it was
+      pub holding-length : tableLength (storeOf (holding h xs ls q) .header) ≡ tableLength (q .header)
+      unfolding holding
+      holding-length =
+          by-cases (λ g. tableLength (storeOf g .header) ≡ tableLength (q .header)) (ltb (h .header .width) (length xs)) (withList (drop 1 xs) (drop 1 ls) (withStore (gaveUp xs ls q) h)) (withList xs ls (withStore q h))
+          (λ full. given-up-length q (sound q f) xs ls n some some-label)
+          (λ room. refl)
+
     -- whatever the answer
     pub after-sound : (a : Answer) (q : PointStore E) → wellFormed q ≡ true → Leaves (storeOf h) a q → HoldSound (heldAfter h a q)
-    after-sound (kept i l laid) q f g = holding-sound q f i l g
+    after-sound (kept i l laid left) q f g = holding-sound q f i l g
     after-sound waiting q f c = stored-sound q f c
     after-sound done q f c = stored-sound q f c
     after-sound (is n) q f c = stored-sound q f c

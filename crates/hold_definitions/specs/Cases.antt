@@ -15,7 +15,7 @@ use Rattle.class_table.specs.Reasons.{reasonClasses}
 use Rattle.class_table.specs.Table.{someBelow, largestBelow, tableAllowed}
 use Rattle.class_table.specs.Text.{numbered, tableText, classesOf, tableRead}
 use Rattle.interval_store_manager.specs.Calls.{pushed, changed, taken, released}
-use Rattle.interval_store_manager.specs.Intervals.{inside, holders, isFree, inBounds, noneShared}
+use Rattle.interval_store_manager.specs.Intervals.{inside, holders, isFree, freeNumber, inBounds, noneShared}
 use Rattle.interval_store_manager.specs.WellFormed.{capacityAllowed, lentEnough as stackLent, wellFormed as managerWellFormed}
 use Rattle.placement.specs.Alignment.{wrappingSub, wrappingAdd, alignment, zerosBefore}
 use Rattle.placement.specs.Compaction.{holds, liveBelow, moved, grownBlocks, blocks, blockMoves, copiedDown, settled, blockDown, blocksDown, writtenByBlocks, compacted}
@@ -33,7 +33,7 @@ use Rattle.store_definitions.specs.Answers.{Answer, kept, waiting, done, is, sa
 use Rattle.store_definitions.specs.Opening.{openDecided, openedMemory, opened}
 use Rattle.store_definitions.specs.Counting.{incTest, incremented, incSpec, decTest, placeAfterDec, decremented, decSpec}
 use Rattle.store_definitions.specs.Rows.{compactedRows, grownRows, short, roomMade, compactSpec, copyOf}
-use Rattle.store_definitions.specs.Adding.{pointLength, waits, tableFull, addDecided, windowAfter, sequenced, rowOf, labelGiven, labelled, tableGrown, placed, joins, overflows, laidRows, laidHow, keptAfter, indexGiven, keeps, addSpec}
+use Rattle.store_definitions.specs.Adding.{pointLength, waits, tableFull, addDecided, windowAfter, sequenced, rowOf, labelGiven, labelled, tableGrown, placed, joins, overflows, laidRows, laidHow, keptAfter, indexGiven, freeLeft, keeps, addSpec}
 use Rattle.store_definitions.specs.Bounds.{boundsHold, startAllowed, rotationAllowed, labelsLent, lentEnough}
 use Rattle.store_definitions.specs.Decisions.{formDecided, live, touchDecided}
 use Rattle.store_definitions.specs.WellFormed.{tableLengthWell, storeLengthWell, freeStartWell, emptyUncounted, placesDistinct, placesEnd, sequenceWell, wellFormed}
@@ -115,7 +115,7 @@ run i (c ∷ cs) h answers = let o = called c h in run i cs (o .after) (answers 
 
 -- a refused opening ends the case
 opening : Answer → ℕ → List Call → PointHold ℕ → Said
-opening (kept i l laid) n cs h = said [] [] [] []
+opening (kept i l laid left) n cs h = said [] [] [] []
 opening waiting n cs h = said [] [] [] []
 opening done n cs h = run n cs h []
 opening (is k) n cs h = said [] [] [] []
@@ -151,45 +151,46 @@ labelled-two = shape 1 1 3 false false true
 
 cases : List Case
 cases =
-    -- two are held: the third kept add gives up the first point, the fourth the second, and gets the index of the first
+    -- two are held: the third kept add gives up the first point, the fourth the second, and gets the index of the first. The last number of a
+    -- kept answer counts three live points then, the one that is given up among them
     record {
       found = ran plain 2 (add (10 ∷ []) 0 ∷ add (20 ∷ []) 0 ∷ add (30 ∷ []) 0 ∷ add (40 ∷ []) 0 ∷ []) 0;
-      expected = said (kept 0 none (Whole 0) ∷ kept 1 none (Whole 1) ∷ kept 2 none (Whole 2) ∷ kept 0 none (Whole 3) ∷ []) (2 ∷ 0 ∷ []) [] (40 ∷ []);
+      expected = said (kept 0 none (Whole 0) 3 ∷ kept 1 none (Whole 1) 2 ∷ kept 2 none (Whole 2) 1 ∷ kept 0 none (Whole 3) 1 ∷ []) (2 ∷ 0 ∷ []) [] (40 ∷ []);
     }
     -- a refused add gives up nothing
     ∷ record {
       found = ran plain 1 (add (10 ∷ []) 0 ∷ add (20 ∷ 21 ∷ []) 0 ∷ []) 0;
-      expected = said (kept 0 none (Whole 0) ∷ refused 3 ∷ []) (0 ∷ []) [] (10 ∷ []);
+      expected = said (kept 0 none (Whole 0) 3 ∷ refused 3 ∷ []) (0 ∷ []) [] (10 ∷ []);
     }
     -- nor does a waiting one
     ∷ record {
       found = ran windowed 1 (add (1 ∷ []) 0 ∷ add (2 ∷ []) 0 ∷ add (3 ∷ []) 0 ∷ []) 1;
-      expected = said (waiting ∷ kept 0 none (Whole 0) ∷ kept 1 none (Joined 1) ∷ []) (1 ∷ []) [] (2 ∷ 3 ∷ []);
+      expected = said (waiting ∷ kept 0 none (Whole 0) 2 ∷ kept 1 none (Joined 1) 1 ∷ []) (1 ∷ []) [] (2 ∷ 3 ∷ []);
     }
     -- rotating: every row that does not join is refused with 10 for ever, since a refused add gives up nothing; one that joins is kept
     ∷ record {
       found = ran rotating 1 (add (1 ∷ 2 ∷ []) 0 ∷ add (2 ∷ 3 ∷ []) 0 ∷ add (9 ∷ 9 ∷ []) 0 ∷ add (9 ∷ 9 ∷ []) 0 ∷ add (9 ∷ 9 ∷ []) 0 ∷ add (3 ∷ 4 ∷ []) 0 ∷ []) 0;
-      expected = said (kept 0 none (Whole 0) ∷ kept 1 none (Joined 1) ∷ refused 10 ∷ refused 10 ∷ refused 10 ∷ kept 0 none (Joined 2) ∷ []) (0 ∷ []) [] (3 ∷ 4 ∷ []);
+      expected = said (kept 0 none (Whole 0) 1 ∷ kept 1 none (Joined 1) 0 ∷ refused 10 ∷ refused 10 ∷ refused 10 ∷ kept 0 none (Joined 2) 0 ∷ []) (0 ∷ []) [] (3 ∷ 4 ∷ []);
     }
     -- labels: the label of the point given up goes with it, and its index is given again
     ∷ record {
       found = ran labelled-two 2 (add (10 ∷ []) 5 ∷ add (20 ∷ []) 6 ∷ add (30 ∷ []) 23 ∷ add (40 ∷ []) 0 ∷ []) 0;
-      expected = said (kept 0 0 (Whole 0) ∷ kept 1 1 (Whole 1) ∷ kept 2 2 (Whole 2) ∷ kept 0 0 (Whole 2) ∷ []) (2 ∷ 0 ∷ []) (2 ∷ 0 ∷ []) (40 ∷ []);
+      expected = said (kept 0 0 (Whole 0) 2 ∷ kept 1 1 (Whole 1) 1 ∷ kept 2 2 (Whole 2) 0 ∷ kept 0 0 (Whole 2) 0 ∷ []) (2 ∷ 0 ∷ []) (2 ∷ 0 ∷ []) (40 ∷ []);
     }
     -- an inc on the store inside makes the next add answer 1
     ∷ record {
       found = ran plain 2 (add (10 ∷ []) 0 ∷ inc 0 none ∷ add (20 ∷ []) 0 ∷ []) 0;
-      expected = said (kept 0 none (Whole 0) ∷ done ∷ refused 1 ∷ []) (0 ∷ []) [] (10 ∷ []);
+      expected = said (kept 0 none (Whole 0) 3 ∷ done ∷ refused 1 ∷ []) (0 ∷ []) [] (10 ∷ []);
     }
     -- a compact does not
     ∷ record {
       found = ran plain 1 (add (10 ∷ []) 0 ∷ add (20 ∷ []) 0 ∷ compact ∷ add (30 ∷ []) 0 ∷ []) 0;
-      expected = said (kept 0 none (Whole 0) ∷ kept 1 none (Whole 1) ∷ done ∷ kept 0 none (Whole 1) ∷ []) (0 ∷ []) [] (30 ∷ []);
+      expected = said (kept 0 none (Whole 0) 3 ∷ kept 1 none (Whole 1) 2 ∷ done ∷ kept 0 none (Whole 1) 2 ∷ []) (0 ∷ []) [] (30 ∷ []);
     }
     -- widths: 0, one that is the capacity, and any with capacity 1
     ∷ record { found = ran plain 0 [] 0; expected = said (refused 15 ∷ []) [] [] [] }
     ∷ record { found = ran plain 4 [] 0; expected = said (refused 15 ∷ []) [] [] [] }
-    ∷ record { found = ran plain 3 (add (10 ∷ []) 0 ∷ []) 0; expected = said (kept 0 none (Whole 0) ∷ []) (0 ∷ []) [] (10 ∷ []) }
+    ∷ record { found = ran plain 3 (add (10 ∷ []) 0 ∷ []) 0; expected = said (kept 0 none (Whole 0) 3 ∷ []) (0 ∷ []) [] (10 ∷ []) }
     ∷ record { found = ran (shape 1 1 1 false false false) 1 [] 0; expected = said (refused 15 ∷ []) [] [] [] }
     -- the shape before the width, the width before the memory
     ∷ record { found = ran (shape 0 1 4 false false false) 0 [] 0; expected = said (refused 2 ∷ []) [] [] [] }
@@ -203,8 +204,8 @@ cases =
 
 -- an answer as numbers: which kind it is, and what it holds
 numbers : Answer → List ℕ
-numbers (kept i l (Whole place)) = 0 ∷ i ∷ l ∷ 0 ∷ place ∷ []
-numbers (kept i l (Joined place)) = 0 ∷ i ∷ l ∷ 1 ∷ place ∷ []
+numbers (kept i l (Whole place) left) = 0 ∷ i ∷ l ∷ 0 ∷ place ∷ left ∷ []
+numbers (kept i l (Joined place) left) = 0 ∷ i ∷ l ∷ 1 ∷ place ∷ left ∷ []
 numbers waiting = 1 ∷ []
 numbers done = 2 ∷ []
 numbers (is n) = 3 ∷ n ∷ []
@@ -226,7 +227,7 @@ stand (c ∷ cs) = agree (c .found) (c .expected) && stand cs
 
 -- every case gives what is said of it
 held-cases : stand cases ≡ true
-unfolding numbers same agree stand plain windowed rotating labelled-two cases shape rubbish inside-call called said run opening started ran everyBelow allEqual pushed changed taken released inside holders isFree inBounds noneShared capacityAllowed stackLent managerWellFormed wrappingSub wrappingAdd alignment zerosBefore holds liveBelow moved grownBlocks blocks blockMoves copiedDown settled blockDown blocksDown writtenByBlocks compacted turn turned copied grown writtenCount laidAs laidElements laidFree placeOf overlaps rowToLay movedWindow managed freeUncounted countsFit indexTaken lowered codeDecided roomDecided decDecided openDecided openedMemory opened decTest placeAfterDec decremented decSpec compactedRows grownRows short roomMade compactSpec copyOf pointLength waits tableFull addDecided windowAfter sequenced rowOf labelGiven labelled tableGrown placed joins overflows laidRows laidHow keptAfter indexGiven keeps addSpec boundsHold startAllowed rotationAllowed lentEnough formDecided live touchDecided tableLengthWell storeLengthWell freeStartWell emptyUncounted placesDistinct placesEnd sequenceWell wellFormed times everyNamed widthAllowed tablesLent namesLivePoints countedOnce ownLabels holdWellFormed holdOpenDecided holdOpenSpec gaveUp holding holdAddSpec sumBelow countBelow firstBelow raised inUse incDecided holdsClass classSlot slotTaken labelTaken labelRaised labelLowered slotSum differ labelTablesLent codesAllowed slotsHoldClasses classesDistinct slotsSummed labelsWell labelsOpened incTest incremented incSpec labelsLent reasonClasses tableRead tableText numbered classesOf lines line fields field columns column valueFrom digit tableAllowed someBelow largestBelow
+unfolding numbers same agree stand plain windowed rotating labelled-two cases shape rubbish inside-call called said run opening started ran everyBelow allEqual pushed changed taken released inside holders isFree freeNumber inBounds noneShared capacityAllowed stackLent managerWellFormed wrappingSub wrappingAdd alignment zerosBefore holds liveBelow moved grownBlocks blocks blockMoves copiedDown settled blockDown blocksDown writtenByBlocks compacted turn turned copied grown writtenCount laidAs laidElements laidFree placeOf overlaps rowToLay movedWindow managed freeUncounted countsFit indexTaken lowered codeDecided roomDecided decDecided openDecided openedMemory opened decTest placeAfterDec decremented decSpec compactedRows grownRows short roomMade compactSpec copyOf pointLength waits tableFull addDecided windowAfter sequenced rowOf labelGiven labelled tableGrown placed joins overflows laidRows laidHow keptAfter indexGiven freeLeft keeps addSpec boundsHold startAllowed rotationAllowed lentEnough formDecided live touchDecided tableLengthWell storeLengthWell freeStartWell emptyUncounted placesDistinct placesEnd sequenceWell wellFormed times everyNamed widthAllowed tablesLent namesLivePoints countedOnce ownLabels holdWellFormed holdOpenDecided holdOpenSpec gaveUp holding holdAddSpec sumBelow countBelow firstBelow raised inUse incDecided holdsClass classSlot slotTaken labelTaken labelRaised labelLowered slotSum differ labelTablesLent codesAllowed slotsHoldClasses classesDistinct slotsSummed labelsWell labelsOpened incTest incremented incSpec labelsLent reasonClasses tableRead tableText numbered classesOf lines line fields field columns column valueFrom digit tableAllowed someBelow largestBelow
 held-cases = refl
 
 -- the readings after some calls: the number held, and what a slice of n entries gets
@@ -244,5 +245,5 @@ three = add (10 ∷ []) 0 ∷ add (20 ∷ []) 0 ∷ add (30 ∷ []) 0 ∷ []
 held-readings : (same (read 2 three (holdOpenSpec 0 plain 2 (tableText reasonClasses) (rubbish plain 4))) (3 ∷ 2 ∷ 2 ∷ 1 ∷ 2 ∷ [])
     && (same (read 3 three (holdOpenSpec 0 plain 2 (tableText reasonClasses) (rubbish plain 4))) (3 ∷ 2 ∷ 5 ∷ 3 ∷ 77 ∷ 77 ∷ 77 ∷ [])
     && same (read 0 [] (holdOpenSpec 0 plain 2 (tableText reasonClasses) (rubbish plain 4))) (3 ∷ 0 ∷ 2 ∷ []))) ≡ true
-unfolding readings read three numbers same plain shape rubbish inside-call called said run opening started ran everyBelow allEqual pushed changed taken released inside holders isFree inBounds noneShared capacityAllowed stackLent managerWellFormed wrappingSub wrappingAdd alignment zerosBefore holds liveBelow moved grownBlocks blocks blockMoves copiedDown settled blockDown blocksDown writtenByBlocks compacted turn turned copied grown writtenCount laidAs laidElements laidFree placeOf overlaps rowToLay movedWindow managed freeUncounted countsFit indexTaken lowered codeDecided roomDecided decDecided openDecided openedMemory opened decTest placeAfterDec decremented decSpec compactedRows grownRows short roomMade compactSpec copyOf pointLength waits tableFull addDecided windowAfter sequenced rowOf labelGiven labelled tableGrown placed joins overflows laidRows laidHow keptAfter indexGiven keeps addSpec boundsHold startAllowed rotationAllowed lentEnough formDecided live touchDecided tableLengthWell storeLengthWell freeStartWell emptyUncounted placesDistinct placesEnd sequenceWell wellFormed times everyNamed widthAllowed tablesLent namesLivePoints countedOnce ownLabels holdWellFormed holdOpenDecided holdOpenSpec gaveUp holding holdAddSpec sumBelow countBelow firstBelow raised inUse incDecided holdsClass classSlot slotTaken labelTaken labelRaised labelLowered slotSum differ labelTablesLent codesAllowed slotsHoldClasses classesDistinct slotsSummed labelsWell labelsOpened incTest incremented incSpec labelsLent holdFormDecided heldSpec heldNumberSpec tableRead tableText numbered classesOf lines line fields field columns column valueFrom digit reasonClasses tableAllowed someBelow largestBelow
+unfolding readings read three numbers same plain shape rubbish inside-call called said run opening started ran everyBelow allEqual pushed changed taken released inside holders isFree freeNumber inBounds noneShared capacityAllowed stackLent managerWellFormed wrappingSub wrappingAdd alignment zerosBefore holds liveBelow moved grownBlocks blocks blockMoves copiedDown settled blockDown blocksDown writtenByBlocks compacted turn turned copied grown writtenCount laidAs laidElements laidFree placeOf overlaps rowToLay movedWindow managed freeUncounted countsFit indexTaken lowered codeDecided roomDecided decDecided openDecided openedMemory opened decTest placeAfterDec decremented decSpec compactedRows grownRows short roomMade compactSpec copyOf pointLength waits tableFull addDecided windowAfter sequenced rowOf labelGiven labelled tableGrown placed joins overflows laidRows laidHow keptAfter indexGiven freeLeft keeps addSpec boundsHold startAllowed rotationAllowed lentEnough formDecided live touchDecided tableLengthWell storeLengthWell freeStartWell emptyUncounted placesDistinct placesEnd sequenceWell wellFormed times everyNamed widthAllowed tablesLent namesLivePoints countedOnce ownLabels holdWellFormed holdOpenDecided holdOpenSpec gaveUp holding holdAddSpec sumBelow countBelow firstBelow raised inUse incDecided holdsClass classSlot slotTaken labelTaken labelRaised labelLowered slotSum differ labelTablesLent codesAllowed slotsHoldClasses classesDistinct slotsSummed labelsWell labelsOpened incTest incremented incSpec labelsLent holdFormDecided heldSpec heldNumberSpec tableRead tableText numbered classesOf lines line fields field columns column valueFrom digit reasonClasses tableAllowed someBelow largestBelow
 held-readings = refl

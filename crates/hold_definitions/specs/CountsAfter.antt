@@ -24,7 +24,7 @@ use Rattle.store_definitions.specs.Parts.{tableLength, pointTable, labelHalf, R
 use Rattle.store_definitions.specs.Decisions.{live}
 use Rattle.store_definitions.specs.Rows.{roomMade}
 use Rattle.store_definitions.specs.Counting.{placeAfterDec, decremented}
-use Rattle.store_definitions.specs.Adding.{entriesFilled, AddDecided, keep, wait, refuseAdd, addDecided, sequenced, rowOf, labelGiven, labelled, tableGrown, placed, overflows, laidRows, laidHow, keptAfter, indexGiven, keeps, addCarriedOut, addSpec}
+use Rattle.store_definitions.specs.Adding.{entriesFilled, AddDecided, keep, wait, refuseAdd, addDecided, sequenced, rowOf, labelGiven, labelled, tableGrown, placed, overflows, laidRows, laidHow, keptAfter, indexGiven, freeLeft, keeps, addCarriedOut, addSpec}
 use Rattle.store_laws.specs.Sound.{Sound}
 use Rattle.store_laws.specs.Cases.{by-cases}
 use Rattle.store_laws.specs.TableLaws.{filled-before, filled-new, grown-ready}
@@ -97,6 +97,12 @@ module _ {E : Type 0} (p : PointStore E) (w : Sound p) (i l : ℕ) (h : i < tabl
       by-cases (SameShape p) (p .header .«store_labels») (withLabels (labelLowered (labelHalf p) l) q) q
       (λ on. record { capacity-same = refl; flag-same = refl })
       (λ off. record { capacity-same = refl; flag-same = refl })
+
+  pub dec-length : tableLength (decremented p i l .header) ≡ tableLength (p .header)
+  unfolding decremented
+  dec-length =
+      let q = withPoints (lowered (pointTable p) i) (placeAfterDec p i) p in
+      by-cases (λ x. tableLength (x .header) ≡ tableLength (p .header)) (p .header .«store_labels») (withLabels (labelLowered (labelHalf p) l) q) q (λ on. whole) (λ off. whole)
 
   lowered-now : (j : ℕ) → cond (ltb j (lowered (pointTable p) i .manager .capacity)) (getD (lowered (pointTable p) i .counts) j 0) 0 ≡ cond (eqb j i) (countNow p i - 1) (countNow p j)
   unfolding countNow
@@ -287,7 +293,7 @@ module _ {E : Type 0} (eq : E → E → Bool) (zeroElement : E) (p : PointStore 
 module _ {E : Type 0} where
   -- what an add with this answer leaves
   abbrev pub Leaves : PointStore E → Answer → PointStore E → Type 0
-  Leaves p (kept i l laid) q = Gained p q i l
+  Leaves p (kept i l laid left) q = Gained p q i l
   Leaves p waiting q = SameCounts p q
   Leaves p done q = SameCounts p q
   Leaves p (is n) q = SameCounts p q
@@ -316,7 +322,7 @@ module _ {E : Type 0} (eq : E → E → Bool) (zeroElement : E) (p : PointStore 
           let r : Rows E = roomMade zeroElement (p .header) (rowsOf p) in
           let row : List E = rowOf p point in
           by-cases (λ o. Leaves p (o .answer) (o .after)) (overflows eq (p .header) r row) (outcome (refused 10) (withRows r p))
-          (outcome (kept (indexGiven p) (labelGiven p) (laidHow eq (p .header) r row)) (keptAfter eq r row p point code))
+          (outcome (kept (indexGiven p) (labelGiven p) (laidHow eq (p .header) r row) (freeLeft p)) (keptAfter eq r row p point code))
           (λ full. rows-same p r)
           (λ fits. kept-gained eq zeroElement p w point code (keeps-on p point code e))
       split wait e = sequenced-same p point

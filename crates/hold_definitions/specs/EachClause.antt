@@ -13,7 +13,7 @@ use Rattle.class_table.specs.Reasons.{reasonClasses}
 use Rattle.class_table.specs.Table.{someBelow, largestBelow, tableAllowed}
 use Rattle.class_table.specs.Text.{numbered, tableText, classesOf, tableRead}
 use Rattle.interval_store_manager.specs.Calls.{pushed, changed, taken, released}
-use Rattle.interval_store_manager.specs.Intervals.{inside, holders, isFree, inBounds, noneShared}
+use Rattle.interval_store_manager.specs.Intervals.{inside, holders, isFree, freeNumber, inBounds, noneShared}
 use Rattle.interval_store_manager.specs.WellFormed.{capacityAllowed, lentEnough as stackLent, wellFormed as managerWellFormed}
 use Rattle.placement.specs.Alignment.{wrappingSub, wrappingAdd, alignment, zerosBefore}
 use Rattle.placement.specs.Compaction.{holds, liveBelow, moved, grownBlocks, blocks, blockMoves, copiedDown, settled, blockDown, blocksDown, writtenByBlocks, compacted}
@@ -30,7 +30,7 @@ use Rattle.store_definitions.specs.Answers.{Answer, kept, waiting, done, is, sa
 use Rattle.store_definitions.specs.Opening.{openDecided, openedMemory, opened}
 use Rattle.store_definitions.specs.Counting.{incTest, incremented, incSpec, decTest, placeAfterDec, decremented, decSpec}
 use Rattle.store_definitions.specs.Rows.{compactedRows, grownRows, short, roomMade, compactSpec, copyOf}
-use Rattle.store_definitions.specs.Adding.{pointLength, waits, tableFull, addDecided, windowAfter, sequenced, rowOf, labelGiven, labelled, tableGrown, placed, joins, overflows, laidRows, laidHow, keptAfter, indexGiven, keeps, addSpec}
+use Rattle.store_definitions.specs.Adding.{pointLength, waits, tableFull, addDecided, windowAfter, sequenced, rowOf, labelGiven, labelled, tableGrown, placed, joins, overflows, laidRows, laidHow, keptAfter, indexGiven, freeLeft, keeps, addSpec}
 use Rattle.store_definitions.specs.Bounds.{boundsHold, startAllowed, rotationAllowed, labelsLent, lentEnough}
 use Rattle.store_definitions.specs.Decisions.{formDecided, live, touchDecided}
 use Rattle.store_definitions.specs.WellFormed.{tableLengthWell, storeLengthWell, freeStartWell, emptyUncounted, placesDistinct, placesEnd, sequenceWell, wellFormed}
@@ -133,7 +133,7 @@ whole =
     ∷ []
 
 isOne : Answer → Bool
-isOne (kept i l laid) = false
+isOne (kept i l laid left) = false
 isOne waiting = false
 isOne done = false
 isOne (is n) = false
@@ -151,5 +151,5 @@ noneOne (h ∷ hs) = not (isOne (called (add (40 ∷ []) 0) h .answer)) && noneO
 
 -- the store inside is well-formed, and the hold is not
 each-clause : (allOne broken && noneOne whole) ≡ true
-unfolding after held-by remade recounted two three plain labelled-pair broken whole isOne allOne noneOne shape rubbish inside-call called everyBelow allEqual pushed changed taken released inside holders isFree inBounds noneShared capacityAllowed stackLent managerWellFormed wrappingSub wrappingAdd alignment zerosBefore holds liveBelow moved grownBlocks blocks blockMoves copiedDown settled blockDown blocksDown writtenByBlocks compacted turn turned copied grown writtenCount laidAs laidElements laidFree placeOf overlaps rowToLay movedWindow managed freeUncounted countsFit indexTaken lowered codeDecided roomDecided decDecided openDecided openedMemory opened decTest placeAfterDec decremented decSpec compactedRows grownRows short roomMade compactSpec copyOf pointLength waits tableFull addDecided windowAfter sequenced rowOf labelGiven labelled tableGrown placed joins overflows laidRows laidHow keptAfter indexGiven keeps addSpec boundsHold startAllowed rotationAllowed lentEnough formDecided live touchDecided tableLengthWell storeLengthWell freeStartWell emptyUncounted placesDistinct placesEnd sequenceWell wellFormed times everyNamed widthAllowed tablesLent namesLivePoints countedOnce ownLabels holdWellFormed holdOpenDecided holdOpenSpec gaveUp holding holdAddSpec sumBelow countBelow firstBelow raised inUse incDecided holdsClass classSlot slotTaken labelTaken labelRaised labelLowered slotSum differ labelTablesLent codesAllowed slotsHoldClasses classesDistinct slotsSummed labelsWell labelsOpened incTest incremented incSpec labelsLent reasonClasses tableRead tableText numbered classesOf lines line fields field columns column valueFrom digit tableAllowed someBelow largestBelow
+unfolding after held-by remade recounted two three plain labelled-pair broken whole isOne allOne noneOne shape rubbish inside-call called everyBelow allEqual pushed changed taken released inside holders isFree freeNumber inBounds noneShared capacityAllowed stackLent managerWellFormed wrappingSub wrappingAdd alignment zerosBefore holds liveBelow moved grownBlocks blocks blockMoves copiedDown settled blockDown blocksDown writtenByBlocks compacted turn turned copied grown writtenCount laidAs laidElements laidFree placeOf overlaps rowToLay movedWindow managed freeUncounted countsFit indexTaken lowered codeDecided roomDecided decDecided openDecided openedMemory opened decTest placeAfterDec decremented decSpec compactedRows grownRows short roomMade compactSpec copyOf pointLength waits tableFull addDecided windowAfter sequenced rowOf labelGiven labelled tableGrown placed joins overflows laidRows laidHow keptAfter indexGiven freeLeft keeps addSpec boundsHold startAllowed rotationAllowed lentEnough formDecided live touchDecided tableLengthWell storeLengthWell freeStartWell emptyUncounted placesDistinct placesEnd sequenceWell wellFormed times everyNamed widthAllowed tablesLent namesLivePoints countedOnce ownLabels holdWellFormed holdOpenDecided holdOpenSpec gaveUp holding holdAddSpec sumBelow countBelow firstBelow raised inUse incDecided holdsClass classSlot slotTaken labelTaken labelRaised labelLowered slotSum differ labelTablesLent codesAllowed slotsHoldClasses classesDistinct slotsSummed labelsWell labelsOpened incTest incremented incSpec labelsLent reasonClasses tableRead tableText numbered classesOf lines line fields field columns column valueFrom digit tableAllowed someBelow largestBelow
 each-clause = refl

@@ -11,6 +11,7 @@ pub mod Sound
 pub mod ReadingLaws
 pub mod NamesLaws
 pub mod AddingLaws
+pub mod FigureLaws
 pub mod OpeningLaws
 pub mod Cases
 pub mod EachClause

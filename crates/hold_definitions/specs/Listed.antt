@@ -8,7 +8,8 @@ use mathlib.Core.Path.{_≡_, refl, sym, ap, _∙_}
 use lib.ListN.{length, getD, drop}
 use lib.Dec.{eqb}
 use borrow.Author.Tests.{eq-eqb, ne-eqb}
-use Rattle.terms.specs.Below.{one, both, and-make}
+use Rattle.terms.specs.Below.{one, sumBelow, both, and-make, sum-add, sum-zeros}
+use Rattle.terms.specs.Sums.{sum-changed}
 
 -- how often a list names an index
 unfoldable pub times : ℕ → List ℕ → ℕ
@@ -65,3 +66,21 @@ named-make p [] h = refl
 named-make p (x ∷ xs) h =
     and-make (p x) (everyNamed p xs) (h x (omega (arith, times-self x)))
     (named-make p xs (λ i l. h i (omega arith)))
+
+-- the entries of a list below n, counted index by index
+module _ (n : ℕ) where
+  one-entry : (x : ℕ) → x < n → sumBelow n (λ i. one (eqb x i)) ≡ 1
+  one-entry x h =
+      let zeros = sum-zeros n in
+      let change = sum-changed n x (λ i. 0) (λ i. one (eqb x i)) h (λ k l d. rw (ne-eqb x k (λ e. d (sym e)))) in
+      let self : one (eqb x x) ≡ 1 = rw (eq-eqb x x refl) in
+      omega (arith, change, zeros, self)
+
+  pub sum-times : (xs : List ℕ) → ((i : ℕ) → 0 < times i xs → i < n) → sumBelow n (λ i. times i xs) ≡ length xs
+  unfolding times
+  sum-times [] f = sum-zeros n
+  sum-times (x ∷ xs) f =
+      let self : one (eqb x x) ≡ 1 = rw (eq-eqb x x refl) in
+      let first = one-entry x (f x (omega (arith, self))) in
+      let rest = sum-times xs (λ i h. f i (omega arith)) in
+      omega (arith, sum-add n (λ i. one (eqb x i)) (λ i. times i xs), first, rest)

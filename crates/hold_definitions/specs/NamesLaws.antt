@@ -20,7 +20,7 @@ use Rattle.store_laws.specs.Sound.{Sound}
 use Rattle.store_laws.specs.CountingLaws.{dec-accepted}
 use Rattle.hold_definitions.specs.Listed.{times, times-first, times-self, times-more, times-other, times-itself}
 use Rattle.hold_definitions.specs.Adding.{oldestLabel, gaveUp}
-use Rattle.hold_definitions.specs.CountsAfter.{countNow, counted-live, counted-below, counted-inside, labelCountNow, SameShape, SameCounts, Gained, dec-shape, dec-counts, dec-label-counts}
+use Rattle.hold_definitions.specs.CountsAfter.{countNow, counted-live, counted-below, counted-inside, labelCountNow, SameShape, SameCounts, Gained, dec-shape, dec-length, dec-counts, dec-label-counts}
 use Rattle.hold_definitions.specs.Sound.{Own, Names}
 
 module _ {E : Type 0} where
@@ -163,6 +163,10 @@ module _ {E : Type 0} where
     pub given-up-shape : SameShape q (gaveUp xs ls q)
     unfolding gaveUp
     given-up-shape = dec-shape q w oldest label inside used
+
+    pub given-up-length : tableLength (gaveUp xs ls q .header) ≡ tableLength (q .header)
+    unfolding gaveUp
+    given-up-length = dec-length q w oldest label inside used
 
     counts-after : (j : ℕ) → countNow (decremented q oldest label) j ≡ times j (drop 1 xs)
     counts-after j =

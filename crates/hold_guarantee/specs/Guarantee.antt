@@ -1,15 +1,17 @@
 -- What holds after every list of hold adds on a fresh hold, refused ones included: one record, with a field for each clause. It is
 -- said from the adds and their answers alone.
-use Prim.Native.Nat.{ℕ, _/_, _≤_, _<_}
+use Prim.Native.Nat.{ℕ, _+_, _/_, _≤_, _<_}
 use mathlib.Core.Bool.{Bool}
 use mathlib.Core.List.{List, [], _∷_}
 use mathlib.Core.Path.{_≡_}
 use lib.ListN.{length}
 use Rattle.terms.specs.Rows.{Exact}
+use Rattle.placement.specs.declared.Laid.{Laid}
 use Rattle.placement.specs.Copying.{turn, turned}
 use Rattle.store_definitions.specs.declared.Shape.{Shape}
 use Rattle.store_definitions.specs.Memory.{PointStore}
-use Rattle.store_definitions.specs.Answers.{done, is, refused, output}
+use Rattle.store_definitions.specs.Answers.{kept, done, is, refused, output}
+use Rattle.store_definitions.specs.Parts.{tableLength}
 use Rattle.guarantee.specs.Calls.{addCall, copyCall, countCall}
 use Rattle.hold_definitions.specs.Memory.{PointHold, storeOf}
 use Rattle.hold_definitions.specs.Listed.{times}
@@ -42,6 +44,13 @@ module _ {E : Type 0} (eq : E → E → Bool) (zeroElement : E) (s : Shape) (wid
   pub record HoldGuarantee (adds : List (HoldAdd E)) : Type 0 where
     -- each add answers as its store's add does
     pub answers : EachAdd (λ a before. holdAnswerTo eq zeroElement start a before ≡ addCall eq zeroElement (insideAfter before) (a .point) (a .code) .answer) adds
+    -- the figure of each kept add is the table length less the points held before it and less the new one, so that the oldest is still
+    -- counted
+    pub figures : EachAdd
+        (λ a before.
+        (i l : ℕ) (laid : Laid) (left : ℕ) → holdAnswerTo eq zeroElement start a before ≡ kept i l laid left
+        → left + (length (heldList before) + 1) ≡ tableLength (insideAfter (a ∷ before) .header))
+        adds
     -- the indices held are those of the last W kept adds, in order, and none of them twice
     pub held : (out : List ℕ) → length out ≡ length (heldList adds) → heldCall (holdAfter eq zeroElement start adds) out ≡ output done (heldList adds)
     pub held-number : heldNumberCall (holdAfter eq zeroElement start adds) ≡ is (length (heldList adds))

@@ -19,7 +19,7 @@ pub record KeptAdd (E : Type 0) : Type 0 where
 module _ {E : Type 0} where
   -- an add with this answer, after other kept adds
   abbrev pub keptWith : List (HoldAdd E) → List E → Answer → List (KeptAdd E) → List (KeptAdd E)
-  keptWith adds row (kept i l laid) before = record { adds = adds; index = i; row = row; place = placeOf laid } ∷ before
+  keptWith adds row (kept i l laid left) before = record { adds = adds; index = i; row = row; place = placeOf laid } ∷ before
   keptWith adds row waiting before = before
   keptWith adds row done before = before
   keptWith adds row (is n) before = before

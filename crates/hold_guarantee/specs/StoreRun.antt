@@ -37,7 +37,7 @@ module _ {E : Type 0} where
   giveUp h q i l = dec (getD (indicesOf h ++ i ∷ []) 0 0) (oldestLabel q (labelsOf h ++ l ∷ []))
 
   abbrev pub callsWith : PointHold E → Answer → PointStore E → List (Call E) → List (Call E)
-  callsWith h (kept i l laid) q calls = cond (ltb (h .header .width) (length (indicesOf h ++ i ∷ []))) (giveUp h q i l ∷ calls) calls
+  callsWith h (kept i l laid left) q calls = cond (ltb (h .header .width) (length (indicesOf h ++ i ∷ []))) (giveUp h q i l ∷ calls) calls
   callsWith h waiting q calls = calls
   callsWith h done q calls = calls
   callsWith h (is n) q calls = calls
@@ -105,7 +105,7 @@ module _ {E : Type 0} (eq : E → E → Bool) (zeroElement : E) (s : Shape) (wid
 
     module _ (adds : List (HoldAdd E)) (of-adds : addCalls eq zeroElement start adds ≡ then) where
       -- a kept one
-      module _ (i l : ℕ) (laid : Laid) (hist : past then ≡ recordedWith (kept i l laid)) (g : Gained (storeOf h) q i l) (positive : 0 < width) (calls-are : storeCalls eq zeroElement start adds ≡ callsWith h (kept i l laid) q then) where
+      module _ (i l : ℕ) (laid : Laid) (left : ℕ) (hist : past then ≡ recordedWith (kept i l laid left)) (g : Gained (storeOf h) q i l) (positive : 0 < width) (calls-are : storeCalls eq zeroElement start adds ≡ callsWith h (kept i l laid left) q then) where
         abbrev xs : List ℕ
         xs = indicesOf h ++ i ∷ []
 
@@ -247,7 +247,7 @@ module _ {E : Type 0} (eq : E → E → Bool) (zeroElement : E) (s : Shape) (wid
       -- any add
       pub add-follows : (a : Answer) → past then ≡ recordedWith a → Leaves (storeOf h) a q → 0 < width → storeCalls eq zeroElement start adds ≡ callsWith h a q then → Follows (heldAfter h a q) (callsWith h a q then) (keptWith adds (rowOfAdd s (pointsWith point a points)) a keptBefore) (pointsWith point a points)
       unfolding recorded changedBy
-      add-follows (kept i l laid) hist g positive are = kept-follows i l laid hist g positive are (after-sound h (f .sound) (kept i l laid) q well g)
+      add-follows (kept i l laid left) hist g positive are = kept-follows i l laid left hist g positive are (after-sound h (f .sound) (kept i l laid left) q well g)
       add-follows waiting hist c positive are = quiet waiting hist c (after-sound h (f .sound) waiting q well c) (λ i. refl) refl
       add-follows done hist c positive are = quiet done hist c (after-sound h (f .sound) done q well c) (λ i. refl) refl
       add-follows (is n) hist c positive are = quiet (is n) hist c (after-sound h (f .sound) (is n) q well c) (λ i. refl) refl

@@ -1,15 +1,17 @@
 -- The hold's guarantee holds after every list of hold adds on every fresh hold.
-use Prim.Native.Nat.{ℕ, _/_, _≤_, _<_}
+use Prim.Native.Nat.{ℕ, _+_, _/_, _≤_, _<_}
 use native.Mathlib.Omega.{arith}
 use mathlib.Core.Bool.{Bool}
 use mathlib.Core.List.{List, [], _∷_}
 use mathlib.Core.Path.{_≡_, refl, sym, ap, subst, _∙_}
 use lib.ListN.{length}
 use borrow.Author.Tests.{eq-eqb}
+use Rattle.placement.specs.declared.Laid.{Laid}
 use Rattle.placement.specs.Copying.{turn, turned}
 use Rattle.store_definitions.specs.declared.Shape.{Shape}
 use Rattle.store_definitions.specs.Memory.{PointStore}
-use Rattle.store_definitions.specs.Answers.{Answer, done, is, refused, Outcome, outcome, output}
+use Rattle.store_definitions.specs.Answers.{Answer, kept, done, is, refused, Outcome, outcome, output}
+use Rattle.store_definitions.specs.Parts.{tableLength}
 use Rattle.store_definitions.specs.Decisions.{touchDecided}
 use Rattle.store_definitions.specs.Counting.{countSpec}
 use Rattle.store_definitions.specs.Opening.{openSpec}
@@ -30,6 +32,7 @@ use Rattle.hold_definitions.specs.Readings.{holdFormDecided, heldSpec, heldNumb
 use Rattle.hold_definitions.specs.CountsAfter.{Leaves, add-leaves, countNow, counted-live, counted-below, counted-inside}
 use Rattle.hold_definitions.specs.Sound.{HoldSound, hold-sound-make}
 use Rattle.hold_definitions.specs.AddingLaws.{hold-answers, held-length}
+use Rattle.hold_definitions.specs.FigureLaws.{hold-figure}
 use Rattle.hold_definitions.specs.OpeningLaws.{hold-open-accepted, hold-open-done, fresh-sound}
 use Rattle.hold_guarantee.specs.Calls.{holdOpenCall, holdAddCall}
 use Rattle.hold_guarantee.specs.Run.{HoldAdd, holdAfter, holdAnswerTo}
@@ -175,6 +178,15 @@ module _ {E : Type 0} (eq : E → E → Bool) (zeroElement : E) (s : Shape) (wid
   answers [] = tt
   answers (a ∷ before) = (answer-is a before (follows before), answers before)
 
+  figures : (adds : List (HoldAdd E)) → EachAdd (λ a before. (i l : ℕ) (laid : Laid) (left : ℕ) → holdAnswerTo eq zeroElement start a before ≡ kept i l laid left → left + (length (heldList eq zeroElement s width start before) + 1) ≡ tableLength (storeOf (h (a ∷ before)) .header)) adds
+  unfolding holdAfter
+  figures [] = tt
+  figures (a ∷ before) = (
+    λ i l laid left e.
+        omega (arith, hold-figure eq zeroElement (h before) (a .point) (a .code) (hold-sound-make (h before) (follows before .sound)) i l laid left e, number before),
+    figures before,
+  )
+
   -- the hold's guarantee
   pub hold-guaranteed : (adds : List (HoldAdd E)) → HoldGuarantee eq zeroElement s width start adds
   unfolding heldSpec heldNumberSpec holdFormDecided
@@ -183,6 +195,7 @@ module _ {E : Type 0} (eq : E → E → Bool) (zeroElement : E) (s : Shape) (wid
       let well = hold-sound-make (h adds) (follow .sound) in
       record {
         answers = answers adds;
+        figures = figures adds;
         held = λ out sized. rw (well, eq-eqb (length out) (h adds .header .held) (sized ∙ sym (number adds))) (ap (λ (ys : List ℕ). output done ys) (follow .list));
         held-number = rw well (ap is (number adds));
         held-once = once adds;

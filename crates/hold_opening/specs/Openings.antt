@@ -131,7 +131,7 @@ module _ (s : Shape) (width : ℕ) (text : List ℕ) (m : HoldMemory ℕ) where
 
   -- a store's opening as that of the hold around it
   around : Answer → PointStore ℕ → HoldOutcome ℕ
-  around (kept i l laid) p = holdOutcome waiting (freshHold width p m)
+  around (kept i l laid left) p = holdOutcome waiting (freshHold width p m)
   around waiting p = holdOutcome waiting (freshHold width p m)
   around done p = holdOutcome done (freshHold width p m)
   around (is n) p = holdOutcome waiting (freshHold width p m)

@@ -20,8 +20,8 @@ pub data Answer : Type 0 where
   opened : IntervalStoreManager → Answer
   -- an accepted call that has no value
   done : Answer
-  -- an index given
-  given : ℕ → Answer
+  -- an index given, and how many remain free
+  given : ℕ → ℕ → Answer
   -- a number read
   holds : ℕ → Answer
   -- a yes or no read
@@ -38,7 +38,7 @@ changedMeans atChange.Done = done
 changedMeans (atChange.Refused r) = refused (number r)
 
 abbrev pub gotMeans : Got → Answer
-gotMeans (atGet.Given g) = given (g .index)
+gotMeans (atGet.Given g) = given (g .index) (g .free)
 gotMeans (atGet.Refused r) = refused (number r)
 
 abbrev pub numberMeans : Number → Answer

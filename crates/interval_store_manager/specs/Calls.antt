@@ -55,13 +55,17 @@ changeDecided m starts ends new =
 unfoldable pub changeSpec : IntervalStoreManager → List ℕ → List ℕ → ℕ → Outcome
 changeSpec m starts ends new = carriedOut (changeDecided m starts ends new) m starts ends (changed m starts ends new)
 
+-- document 02: 'returns, with the index, how many remain free in it', the stack being the one after the get
+abbrev pub gives : ℕ → IntervalStoreManager → List ℕ → List ℕ → Outcome
+gives index m starts ends = outcome (given index (freeNumber (m .capacity) (m .last_in_use) starts ends)) m starts ends
+
 -- 'Get takes the top's start; the interval is popped if that was its end.'
 unfoldable pub taken : IntervalStoreManager → List ℕ → List ℕ → Outcome
 taken m starts ends =
     let n = m .last_in_use in
     let start = atTop n starts in
-    cond (eqb start (atTop n ends)) (outcome (given start) (manager (m .capacity) (n - 1)) starts ends)
-    (outcome (given start) m (set starts (n - 1) (start + 1)) ends)
+    cond (eqb start (atTop n ends)) (gives start (manager (m .capacity) (n - 1)) starts ends)
+    (gives start m (set starts (n - 1) (start + 1)) ends)
 
 unfoldable pub getDecided : IntervalStoreManager → List ℕ → List ℕ → Decided
 getDecided m starts ends = cond (wellFormed m starts ends) (cond (eqb (m .last_in_use) 0) (refuse 9) go) (refuse 1)

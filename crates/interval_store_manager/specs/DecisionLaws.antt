@@ -4,14 +4,14 @@ use native.Mathlib.Omega.{arith}
 use mathlib.Core.List.{List}
 use mathlib.Core.Bool.{Bool, true, false, cond, _&&_, _||_}
 use mathlib.Core.Path.{_≡_, refl}
-use lib.Dec.{leb, ltb, eqb}
-use borrow.Author.Tests.{ltb-false, leb-false, eqb-false}
-use Rattle.terms.specs.Below.{both, positive}
+use lib.Dec.{leb, ltb}
+use borrow.Author.Tests.{ltb-false, leb-false, eq-eqb, ne-eqb}
+use Rattle.terms.specs.Below.{both}
 use Rattle.interval_store_manager.specs.declared.IntervalStoreManager.{IntervalStoreManager}
 use Rattle.interval_store_manager.specs.Intervals.{isFree}
 use Rattle.interval_store_manager.specs.WellFormed.{lentEnough, wellFormed}
 use Rattle.interval_store_manager.specs.Answers.{Answer, refused, Outcome, outcome}
-use Rattle.interval_store_manager.specs.Calls.{Decided, go, refuse, carriedOut, changeDecided, getDecided, releaseDecided, reading}
+use Rattle.interval_store_manager.specs.Calls.{Decided, go, refuse, carriedOut, taken, changeDecided, getDecided, getSpec, releaseDecided, reading}
 
 pub no-go : {A : Type 0} {n : ℕ} → refuse n ≡ go → A
 no-go {A} {n} e = absurd (let z : _≡_ {A = ℕ} 0 1 = cc in omega arith)
@@ -30,12 +30,19 @@ neither : (a b : Bool) → (a || b) ≡ false → (a ≡ false) × (b ≡ false)
 neither true b e = absurd (let z : _≡_ {A = ℕ} 0 1 = cc in omega arith)
 neither false b e = (refl, e)
 
-pub get-go : (m : IntervalStoreManager) (ss es : List ℕ) → getDecided m ss es ≡ go → (wellFormed m ss es ≡ true) × (0 < m .last_in_use)
-unfolding getDecided
-get-go m ss es e =
-    let p = checked-go 9 (wellFormed m ss es) (eqb (m .last_in_use) 0) e in
-    let d = eqb-false (m .last_in_use) 0 (p .1) in
-    (p .0, positive (m .last_in_use) d)
+-- get of a well-formed manager with something free, with nothing free, and of any other
+module _ (m : IntervalStoreManager) (ss es : List ℕ) where
+  pub get-given : wellFormed m ss es ≡ true → (m .last_in_use ≡ 0 → ⊥) → getSpec m ss es ≡ taken m ss es
+  unfolding getSpec getDecided
+  get-given w d = rw (w, ne-eqb (m .last_in_use) 0 d)
+
+  pub get-none : wellFormed m ss es ≡ true → m .last_in_use ≡ 0 → getSpec m ss es ≡ outcome (refused 9) m ss es
+  unfolding getSpec getDecided
+  get-none w e = rw (w, eq-eqb (m .last_in_use) 0 e)
+
+  pub get-ill : wellFormed m ss es ≡ false → getSpec m ss es ≡ outcome (refused 1) m ss es
+  unfolding getSpec getDecided
+  get-ill w = rw w
 
 pub release-go : (m : IntervalStoreManager) (ss es : List ℕ) (i : ℕ) → releaseDecided m ss es i ≡ go → (wellFormed m ss es ≡ true) × ((i < m .capacity) × (isFree (m .last_in_use) ss es i ≡ false))
 unfolding releaseDecided

@@ -13,25 +13,25 @@ use Rattle.terms.specs.Below.{one}
 use Rattle.interval_store_manager.specs.declared.IntervalStoreManager.{IntervalStoreManager}
 use Rattle.interval_store_manager.specs.Intervals.{atTop, inside, holders, isFree, freeNumber}
 use Rattle.interval_store_manager.specs.WellFormed.{wellFormed}
-use Rattle.interval_store_manager.specs.Answers.{Outcome, outcome, given}
-use Rattle.interval_store_manager.specs.Calls.{manager, taken}
+use Rattle.interval_store_manager.specs.Answers.{Answer, Outcome, outcome, given}
+use Rattle.interval_store_manager.specs.Calls.{manager, gives, taken}
 use Rattle.interval_store_manager.specs.IntervalLaws.{inside-single, inside-first}
 use Rattle.interval_store_manager.specs.StackLaws.{free-number}
 use Rattle.interval_store_manager.specs.Sound.{Sound, sound, sound-make, entries-le-capacity, restacked}
 use Rattle.interval_store_manager.specs.TopLaws.{holders-top, top-start, bounded-fewer, bounded-start}
 use Rattle.interval_store_manager.specs.FreeLaws.{free-less, sizes-one}
 
-pub taken-pop : (c n : ℕ) (ss es : List ℕ) → atTop n ss ≡ atTop n es → taken (manager c n) ss es ≡ outcome (given (atTop n ss)) (manager c (n - 1)) ss es
+taken-pop : (c n : ℕ) (ss es : List ℕ) → atTop n ss ≡ atTop n es → taken (manager c n) ss es ≡ gives (atTop n ss) (manager c (n - 1)) ss es
 unfolding taken
 taken-pop c n ss es e = rw (eq-eqb (atTop n ss) (atTop n es) e)
 
-pub taken-keep : (c n : ℕ) (ss es : List ℕ) → (atTop n ss ≡ atTop n es → ⊥) → taken (manager c n) ss es ≡ outcome (given (atTop n ss)) (manager c n) (set ss (n - 1) (atTop n ss + 1)) es
+taken-keep : (c n : ℕ) (ss es : List ℕ) → (atTop n ss ≡ atTop n es → ⊥) → taken (manager c n) ss es ≡ gives (atTop n ss) (manager c n) (set ss (n - 1) (atTop n ss + 1)) es
 unfolding taken
 taken-keep c n ss es e = rw (ne-eqb (atTop n ss) (atTop n es) e)
 
 -- What get leaves: the given index is held once less, every other as before, and the rest is a sound stack.
 pub record Took (c n : ℕ) (ss es : List ℕ) (o : Outcome) : Type 0 where
-  pub answer : o .answer ≡ given (atTop n ss)
+  pub answer : o .answer ≡ given (atTop n ss) (freeNumber (o .manager .capacity) (o .manager .last_in_use) (o .starts) (o .ends))
   pub capacity : o .manager .capacity ≡ c
   pub held : (k : ℕ) → holders n ss es k ≡ holders (o .manager .last_in_use) (o .starts) (o .ends) k + one (eqb k (atTop n ss))
   pub kept : Sound (o .manager .capacity) (o .manager .last_in_use) (o .starts) (o .ends)
@@ -53,7 +53,7 @@ module _ (c n : ℕ) (ss es : List ℕ) (s : Sound c n ss es) (h : 0 < n) where
       let old = holders-top n ss es k h in
       omega arith
 
-  popped : atTop n ss ≡ atTop n es → Took c n ss es (outcome (given (atTop n ss)) (manager c (n - 1)) ss es)
+  popped : atTop n ss ≡ atTop n es → Took c n ss es (gives (atTop n ss) (manager c (n - 1)) ss es)
   popped e =
       record {
         answer = refl;
@@ -64,7 +64,7 @@ module _ (c n : ℕ) (ss es : List ℕ) (s : Sound c n ss es) (h : 0 < n) where
             (λ i l. omega (arith, pop-held e i, s .single i l));
       }
 
-  shortened : (atTop n ss ≡ atTop n es → ⊥) → Took c n ss es (outcome (given (atTop n ss)) (manager c n) (set ss (n - 1) (atTop n ss + 1)) es)
+  shortened : (atTop n ss ≡ atTop n es → ⊥) → Took c n ss es (gives (atTop n ss) (manager c n) (set ss (n - 1) (atTop n ss + 1)) es)
   shortened d =
       let less : atTop n ss + 1 ≤ atTop n es = elim (decLt (atTop n ss) (atTop n es)) [ yes l ↦ omega arith | no g ↦ absurd (d (omega (arith, s .bounds .ordered (n - 1) (omega arith)))) ] in
       record {
@@ -119,3 +119,24 @@ module _ (m : IntervalStoreManager) (ss es : List ℕ) (w : wellFormed m ss es �
       let before = free-number c n ss es (sound m ss es w .single) in
       let now = free-number c n′ (after .starts) (after .ends) (λ i l. omega (arith, what .held i, sound m ss es w .single i l)) in
       omega arith
+
+  -- one fewer than were free before
+  pub get-figure : (free : ℕ) → free ≡ freeNumber (m .capacity) (m .last_in_use) ss es → after .answer ≡ given (atTop (m .last_in_use) ss) (free - 1)
+  get-figure free e =
+      let less : freeNumber (after .manager .capacity) (after .manager .last_in_use) (after .starts) (after .ends) ≡ free - 1 = rw (what .capacity) (omega (arith, get-number)) in
+      what .answer ∙ ap (λ (k : ℕ). given (atTop (m .last_in_use) ss) k) less
+
+  -- the two forms of get with the figure that the check counted
+  module _ (free : ℕ) (counted : free ≡ freeNumber (m .capacity) (m .last_in_use) ss es) where
+    pub some-free : 0 < free
+    some-free = omega (arith, get-number)
+
+    figured : (o : Outcome) → after ≡ o → outcome (given (atTop (m .last_in_use) ss) (free - 1)) (o .manager) (o .starts) (o .ends) ≡ after
+    figured o e =
+        ap (λ (a : Answer). outcome a (o .manager) (o .starts) (o .ends)) (sym (get-figure free counted) ∙ ap (λ (x : Outcome). x .answer) e) ∙ sym e
+
+    pub pop-given : atTop (m .last_in_use) ss ≡ atTop (m .last_in_use) es → outcome (given (atTop (m .last_in_use) ss) (free - 1)) (manager (m .capacity) (m .last_in_use - 1)) ss es ≡ after
+    pop-given e = figured (gives (atTop (m .last_in_use) ss) (manager (m .capacity) (m .last_in_use - 1)) ss es) (taken-pop (m .capacity) (m .last_in_use) ss es e)
+
+    pub keep-given : (atTop (m .last_in_use) ss ≡ atTop (m .last_in_use) es → ⊥) → outcome (given (atTop (m .last_in_use) ss) (free - 1)) m (set ss (m .last_in_use - 1) (atTop (m .last_in_use) ss + 1)) es ≡ after
+    keep-given d = figured (gives (atTop (m .last_in_use) ss) m (set ss (m .last_in_use - 1) (atTop (m .last_in_use) ss + 1)) es) (taken-keep (m .capacity) (m .last_in_use) ss es d)

@@ -1,6 +1,6 @@
-// What is decided of change, get and release before anything is written: to go on, or document 01's refusal.
+// What is decided of change and release before anything is written: to go on, or document 01's refusal.
 ghost use mathlib.Core.Path.{_≡_};
-ghost use Rattle.interval_store_manager.specs.Calls.{decisionMeans, changeDecided, getDecided, releaseDecided};
+ghost use Rattle.interval_store_manager.specs.Calls.{decisionMeans, changeDecided, releaseDecided};
 use crate::Decision;
 use crate::IntervalStoreManager;
 use crate::check::lent_enough;
@@ -25,20 +25,6 @@ pub fn change_decision(
         if lent_enough(new_capacity, starts, ends) {
             return Decision::Go;
         }
-    }
-    Decision::Refuse(Refusal::IllFormed)
-}
-
-pub fn get_decision(m: IntervalStoreManager, starts: &[u16], ends: &[u16]) -> Decision
-    ensures { λ r. ⌜ decisionMeans r ≡ getDecided m (now (starts .entry)) (now (ends .entry)) ⌝ }
-{
-    let checked = well_formed(m, starts, ends);
-    let ok = checked.ok;
-    if ok {
-        if m.last_in_use == 0 {
-            return Decision::Refuse(Refusal::PointsFull);
-        }
-        return Decision::Go;
     }
     Decision::Refuse(Refusal::IllFormed)
 }

@@ -15,7 +15,6 @@ pub use check::lent_enough;
 pub use check::mark_free;
 pub use check::well_formed;
 use decide::change_decision;
-use decide::get_decision;
 use decide::release_decision;
 use terms::Refusal;
 
@@ -46,9 +45,10 @@ pub struct ChangeResult {
     pub answer: Changed,
 }
 
-// What get gives. A struct, so that it can carry more than the index.
+// What get gives: the index, and how many remain free.
 pub struct Given {
     pub index: usize,
+    pub free: usize,
 }
 
 pub enum Got {
@@ -126,25 +126,30 @@ impl IntervalStoreManager {
         }
     }
 
-    // Takes a free index.
+    // Takes a free index, and tells how many remain.
     pub fn get(self, starts: &mut [u16], ends: &[u16]) -> GetResult
         ensures { λ r. ⌜ outcome (gotMeans (r .answer)) (r .manager) (now (starts .exit)) (now (ends .entry)) ≡ getSpec self (now (starts .entry)) (now (ends .entry)) ⌝ }
     {
-        let d = get_decision(self, starts, ends);
-        match d {
-            Decision::Refuse(why) => GetResult {
-                manager: self,
-                answer: Got::Refused(why),
-            },
-            Decision::Go => {
-                let taken = self.get_unchecked(starts, ends);
-                let manager = taken.manager;
-                let given = taken.given;
-                GetResult {
-                    manager,
-                    answer: Got::Given(given),
-                }
+        let checked = well_formed(self, starts, ends);
+        let ok = checked.ok;
+        if ok {
+            if self.last_in_use == 0 {
+                return GetResult {
+                    manager: self,
+                    answer: Got::Refused(Refusal::PointsFull),
+                };
             }
+            let taken = self.get_unchecked(starts, ends, checked.free);
+            let manager = taken.manager;
+            let given = taken.given;
+            return GetResult {
+                manager,
+                answer: Got::Given(given),
+            };
+        }
+        GetResult {
+            manager: self,
+            answer: Got::Refused(Refusal::IllFormed),
         }
     }
 

@@ -3,7 +3,7 @@ ghost use mathlib.Core.Bool.{true, false};
 ghost use mathlib.Core.Path.{_≡_};
 ghost use Prim.Native.Nat.{_<_, _≤_};
 ghost use lib.ListN.{length};
-ghost use Rattle.interval_store_manager.specs.Intervals.{isFree};
+ghost use Rattle.interval_store_manager.specs.Intervals.{isFree, freeNumber};
 ghost use Rattle.interval_store_manager.specs.WellFormed.{lentEnough, wellFormed};
 ghost use Rattle.interval_store_manager.specs.Answers.{done, given, outcome};
 ghost use Rattle.interval_store_manager.specs.Calls.{changed, pushed, taken, released};
@@ -33,26 +33,31 @@ impl IntervalStoreManager {
         }
     }
 
-    pub fn get_unchecked(self, starts: &mut [u16], ends: &[u16]) -> Taken
-        requires { ⌜ (wellFormed self (now starts) (now ends) ≡ true) × (0 < self .last_in_use) ⌝ }
-        ensures { λ r. ⌜ outcome (given (r .given .index)) (r .manager) (now (starts .exit)) (now (ends .entry)) ≡ taken self (now (starts .entry)) (now (ends .entry)) ⌝ }
+    // The check has counted how many are free.
+    pub fn get_unchecked(self, starts: &mut [u16], ends: &[u16], free: usize) -> Taken
+        requires { ⌜ (wellFormed self (now starts) (now ends) ≡ true) × ((0 < self .last_in_use) × (free ≡ freeNumber (self .capacity) (self .last_in_use) (now starts) (now ends))) ⌝ }
+        ensures { λ r. ⌜ outcome (given (r .given .index) (r .given .free)) (r .manager) (now (starts .exit)) (now (ends .entry)) ≡ taken self (now (starts .entry)) (now (ends .entry)) ⌝ }
     {
         let top = self.last_in_use - 1;
         let start = starts[top];
         let index = start as usize;
+        let given = Given {
+            index,
+            free: free - 1,
+        };
         if start == ends[top] {
             return Taken {
                 manager: IntervalStoreManager {
                     capacity: self.capacity,
                     last_in_use: top,
                 },
-                given: Given { index },
+                given,
             };
         }
         starts[top] = start + 1;
         Taken {
             manager: self,
-            given: Given { index },
+            given,
         }
     }
 

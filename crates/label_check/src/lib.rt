@@ -1,8 +1,9 @@
 // Well-formedness of the label half in one linear pass. The managers mark their free indices; each label adds its count to
 // the sum of its slot; each slot's count is held against its sum, and the class of each live slot is seen once.
+ghost use mathlib.Core.Bool.{true};
 ghost use mathlib.Core.Path.{_≡_};
 ghost use Rattle.labels.specs.Labels.{tablesLent, labelsWell, labelsOk};
-ghost use Rattle.labels.specs.Forms.{entered};
+ghost use Rattle.labels.specs.Forms.{entered, FreeOf};
 
 mod label_pass;
 mod slot_pass;
@@ -10,7 +11,14 @@ mod slot_pass;
 use interval_store_manager::mark_free;
 use label_pass::labels_pass;
 use labels::LabelManagers;
+use labels::LabelsFree;
 use slot_pass::slots_pass;
+
+// What the check finds: whether the label half is well-formed, and then, with labels on, how many label indices and slots are free.
+pub struct LabelsChecked {
+    pub ok: bool,
+    pub free: LabelsFree,
+}
 
 fn tables_lent(
     capacity: usize,
@@ -51,16 +59,28 @@ fn label_half_well_formed(
     attribute_count: &[u32],
     attribute_starts: &[u16],
     attribute_ends: &[u16],
-) -> bool
-    ensures { λ r. ⌜ r ≡ labelsWell (now (classes .entry)) capacity (entered managers labels «label_attributes» «label_count» «label_starts» «label_ends» attributes «attribute_count» «attribute_starts» «attribute_ends») ⌝ }
+) -> LabelsChecked
+    ensures { λ r. ⌜ (r .ok ≡ labelsWell (now (classes .entry)) capacity (entered managers labels «label_attributes» «label_count» «label_starts» «label_ends» attributes «attribute_count» «attribute_starts» «attribute_ends»)) × ((r .ok ≡ true → FreeOf (r .free) (entered managers labels «label_attributes» «label_count» «label_starts» «label_ends» attributes «attribute_count» «attribute_starts» «attribute_ends»))) ⌝ }
 {
     let label_manager = managers.label_manager;
     let attribute_manager = managers.attribute_manager;
     if label_manager.capacity != capacity {
-        return false;
+        return LabelsChecked {
+            ok: false,
+            free: LabelsFree {
+                labels: 0,
+                slots: 0,
+            },
+        };
     }
     if attribute_manager.capacity != capacity {
-        return false;
+        return LabelsChecked {
+            ok: false,
+            free: LabelsFree {
+                labels: 0,
+                slots: 0,
+            },
+        };
     }
     if tables_lent(
         capacity,
@@ -92,7 +112,7 @@ fn label_half_well_formed(
                     &label_marks,
                     &mut sums,
                 ) {
-                    return slots_pass(
+                    let ok = slots_pass(
                         capacity,
                         slot_check.free,
                         attributes,
@@ -100,11 +120,24 @@ fn label_half_well_formed(
                         &slot_marks,
                         &sums,
                     );
+                    return LabelsChecked {
+                        ok,
+                        free: LabelsFree {
+                            labels: label_check.free,
+                            slots: slot_check.free,
+                        },
+                    };
                 }
             }
         }
     }
-    false
+    LabelsChecked {
+        ok: false,
+        free: LabelsFree {
+            labels: 0,
+            slots: 0,
+        },
+    }
 }
 
 // Whether the label half is well-formed; with labels off nothing of it is looked at.
@@ -122,8 +155,8 @@ pub fn labels_well_formed(
     attribute_count: &[u32],
     attribute_starts: &[u16],
     attribute_ends: &[u16],
-) -> bool
-    ensures { λ r. ⌜ r ≡ labelsOk «store_labels» (now (classes .entry)) capacity (entered managers labels «label_attributes» «label_count» «label_starts» «label_ends» attributes «attribute_count» «attribute_starts» «attribute_ends») ⌝ }
+) -> LabelsChecked
+    ensures { λ r. ⌜ (r .ok ≡ labelsOk «store_labels» (now (classes .entry)) capacity (entered managers labels «label_attributes» «label_count» «label_starts» «label_ends» attributes «attribute_count» «attribute_starts» «attribute_ends»)) × ((r .ok ≡ true → «store_labels» ≡ true → FreeOf (r .free) (entered managers labels «label_attributes» «label_count» «label_starts» «label_ends» attributes «attribute_count» «attribute_starts» «attribute_ends»))) ⌝ }
 {
     if store_labels {
         return label_half_well_formed(
@@ -141,5 +174,11 @@ pub fn labels_well_formed(
             attribute_ends,
         );
     }
-    true
+    LabelsChecked {
+        ok: true,
+        free: LabelsFree {
+            labels: 0,
+            slots: 0,
+        },
+    }
 }

@@ -7,7 +7,7 @@ use lib.ListN.{getD, set}
 use lib.Dec.{leb, ltb, eqb}
 use Rattle.terms.specs.Below.{everyBelow, countBelow}
 use Rattle.interval_store_manager.specs.declared.IntervalStoreManager.{IntervalStoreManager}
-use Rattle.interval_store_manager.specs.Intervals.{atTop, isFree}
+use Rattle.interval_store_manager.specs.Intervals.{atTop, isFree, freeNumber}
 use Rattle.interval_store_manager.specs.WellFormed.{wellFormed}
 use Rattle.interval_store_manager.specs.Calls.{taken, released}
 
@@ -29,6 +29,10 @@ free t i = isFree (t .manager .last_in_use) (t .starts) (t .ends) i
 -- the index that the manager gives next
 abbrev pub nextIndex : Counted → ℕ
 nextIndex t = atTop (t .manager .last_in_use) (t .starts)
+
+-- how many indices are free
+abbrev pub freeIndices : Counted → ℕ
+freeIndices t = freeNumber (t .manager .capacity) (t .manager .last_in_use) (t .starts) (t .ends)
 
 -- how many indices are live
 unfoldable pub liveNumber : ℕ → Counted → ℕ

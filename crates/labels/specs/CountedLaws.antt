@@ -20,7 +20,7 @@ use Rattle.interval_store_manager.specs.Intervals.{atTop}
 use Rattle.interval_store_manager.specs.GetLaws.{next-below, get-keeps, get-free, get-was-free, took}
 use Rattle.interval_store_manager.specs.ReleaseLaws.{gave, release-keeps, release-free}
 use Rattle.interval_store_manager.specs.FreeLaws.{not-free-held, empty-stack}
-use Rattle.labels.specs.Counted.{Counted, counted, countAt, free, nextIndex, managed, freeUncounted, countsFit, indexTaken, raised, lowered}
+use Rattle.labels.specs.Counted.{Counted, counted, countAt, free, freeIndices, nextIndex, managed, freeUncounted, countsFit, indexTaken, raised, lowered}
 
 pub beq-same : (a b : Bool) → Bool·beq a b ≡ true → a ≡ b
 beq-same true true e = refl
@@ -194,19 +194,25 @@ pub lowered-kept : (t : Counted) (i : ℕ) → (countAt t i ≡ 1 → ⊥) → c
 unfolding lowered
 lowered-kept t i d = rw (ne-eqb (countAt t i) 1 d)
 
--- the index that the manager's get gives
-given-next : (t : Counted) → taken (t .manager) (t .starts) (t .ends) .answer ≡ given (nextIndex t)
-unfolding taken
+-- the index that the manager's get gives, with how many remain free in the table after it
+given-next : (t : Counted) → taken (t .manager) (t .starts) (t .ends) .answer ≡ given (nextIndex t) (freeIndices (indexTaken t))
+unfolding taken indexTaken
 given-next t =
     let end = atTop (t .manager .last_in_use) (t .ends) in
     elim (ℕ-discrete (nextIndex t) end) [ yes e ↦ rw (eq-eqb (nextIndex t) end e) | no d ↦ rw (ne-eqb (nextIndex t) end d) ]
 
-pub index-given : (t : Counted) (i : ℕ) (r : IntervalStoreManager) (ss es : List ℕ) → outcome (given i) r ss es ≡ taken (t .manager) (t .starts) (t .ends) → i ≡ nextIndex t
-index-given t i r ss es e =
-    let f : given i ≡ given (nextIndex t) = ap (λ (o : Outcome). o .answer) e ∙ given-next t in cc
+module _ (t : Counted) (i free : ℕ) (r : IntervalStoreManager) (ss es : List ℕ) (e : outcome (given i free) r ss es ≡ taken (t .manager) (t .starts) (t .ends)) where
+  same-answer : given i free ≡ given (nextIndex t) (freeIndices (indexTaken t))
+  same-answer = ap (λ (o : Outcome). o .answer) e ∙ given-next t
 
--- and the table after it
-pub index-taken : (t : Counted) (i : ℕ) (r : IntervalStoreManager) (ss es : List ℕ) → outcome (given i) r ss es ≡ taken (t .manager) (t .starts) (t .ends) → counted r (set (t .counts) i 1) ss es ≡ indexTaken t
-unfolding indexTaken
-index-taken t i r ss es e =
-    rw (index-given t i r ss es e) (ap (λ (o : Outcome). counted (o .manager) (set (t .counts) (nextIndex t) 1) (o .starts) (o .ends)) e)
+  pub index-given : i ≡ nextIndex t
+  index-given = let f = same-answer in cc
+
+  pub index-figure : free ≡ freeIndices (indexTaken t)
+  index-figure = let f = same-answer in cc
+
+  -- and the table after it
+  pub index-taken : counted r (set (t .counts) i 1) ss es ≡ indexTaken t
+  unfolding indexTaken
+  index-taken =
+      rw index-given (ap (λ (o : Outcome). counted (o .manager) (set (t .counts) (nextIndex t) 1) (o .starts) (o .ends)) e)

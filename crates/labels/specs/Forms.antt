@@ -2,12 +2,14 @@
 -- take, inc and dec ask of their part.
 use Prim.Native.Nat.{ℕ, _≤_, _<_}
 use mathlib.Core.List.{List}
+use mathlib.Core.Path.{_≡_}
 use lib.ListN.{length}
 use denote.Ref.{RefT}
 use denote.Triple.Both.{Both}
 use Rattle.terms.specs.declared.LabelIndex.{LabelIndex}
 use Rattle.labels.specs.declared.LabelManagers.{LabelManagers}
-use Rattle.labels.specs.Counted.{Counted, counted, countAt}
+use Rattle.labels.specs.declared.LabelsFree.{LabelsFree}
+use Rattle.labels.specs.Counted.{Counted, counted, countAt, freeIndices}
 use Rattle.labels.specs.CountedLaws.{WellCounted}
 use Rattle.labels.specs.Labels.{Labels, SlotTaken, LabelTaken}
 
@@ -45,12 +47,18 @@ slotOutcome slot attributes table = record { slot = slot; attributes = attribute
 abbrev pub labelOutcome : LabelIndex → Labels → LabelTaken
 labelOutcome label after = record { label = label .0; after = after }
 
--- a slot may be taken: one is free, and a count has room for one more
-pub record SlotReady (capacity : ℕ) (attributes : List ℕ) (t : Counted) : Type 0 where
+-- so many are free in the two tables
+pub record FreeOf (free : LabelsFree) (l : Labels) : Type 0 where
+  pub labels : free .labels ≡ freeIndices (l .labelTable)
+  pub slots : free .slots ≡ freeIndices (l .attributeTable)
+
+-- a slot may be taken: one is free, and a count has room for one more; so many are free
+pub record SlotReady (capacity : ℕ) (attributes : List ℕ) (t : Counted) (free : ℕ) : Type 0 where
   pub well : WellCounted capacity t
   pub lent : capacity ≤ length attributes
   pub some-free : 0 < t .manager .last_in_use
   pub most : (s : ℕ) → s < capacity → countAt t s ≤ 67107840
+  pub figure : free ≡ freeIndices t
 
 -- an index is in use
 pub record InUse (capacity : ℕ) (t : Counted) (i : ℕ) : Type 0 where

@@ -107,10 +107,10 @@ module _ (classes : List ℕ) (c : ℕ) (l : Labels) (w : Sound classes c l) (co
   code-given = getD-set-same (l .labels) i code 0 (omega (arith, below, w .codes-lent))
 
 -- a label taken part by part
-pub taken-label : (classes : List ℕ) (c : ℕ) (l : Labels) (code class : ℕ) → class ≡ classOf classes code → (a : SlotTaken) → a ≡ slotTaken c (l .attributes) (l .attributeTable) class → (i : ℕ) (r : IntervalStoreManager) (ss es : List ℕ) → outcome (given i) r ss es ≡ taken (l .labelTable .manager) (l .labelTable .starts) (l .labelTable .ends) → labelled l code i a (counted r (set (l .labelTable .counts) i 1) ss es) ≡ labelTaken classes c l code
+pub taken-label : (classes : List ℕ) (c : ℕ) (l : Labels) (code class : ℕ) → class ≡ classOf classes code → (a : SlotTaken) → a ≡ slotTaken c (l .attributes) (l .attributeTable) class → (i free : ℕ) (r : IntervalStoreManager) (ss es : List ℕ) → outcome (given i free) r ss es ≡ taken (l .labelTable .manager) (l .labelTable .starts) (l .labelTable .ends) → labelled l code i a (counted r (set (l .labelTable .counts) i 1) ss es) ≡ labelTaken classes c l code
 unfolding labelTaken
-taken-label classes c l code class k a e i r ss es f =
-    ap (λ (t : Counted). labelled l code i a t) (index-taken (l .labelTable) i r ss es f)
-    ∙ (ap (λ (n : ℕ). labelled l code n a (indexTaken (l .labelTable))) (index-given (l .labelTable) i r ss es f)
+taken-label classes c l code class k a e i free r ss es f =
+    ap (λ (t : Counted). labelled l code i a t) (index-taken (l .labelTable) i free r ss es f)
+    ∙ (ap (λ (n : ℕ). labelled l code n a (indexTaken (l .labelTable))) (index-given (l .labelTable) i free r ss es f)
     ∙ ap (λ (s : SlotTaken). labelled l code (nextIndex (l .labelTable)) s (indexTaken (l .labelTable)))
     (e ∙ ap (λ (n : ℕ). slotTaken c (l .attributes) (l .attributeTable) n) k))

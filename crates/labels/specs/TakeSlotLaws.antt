@@ -59,12 +59,12 @@ module _ (c : ℕ) (held : List ℕ) (t : Counted) (class live : ℕ) (q : live 
   unfolding slotTaken raised
   taken-live h = rw (sym q, lt-ltb live c h)
 
-  pub taken-new : (a : ℕ) (r : IntervalStoreManager) (ss es : List ℕ) → c ≤ live → outcome (given a) r ss es ≡ taken (t .manager) (t .starts) (t .ends) → record { slot = a; attributes = set held a class; table = counted r (set (t .counts) a 1) ss es } ≡ slotTaken c held t class
+  pub taken-new : (a free : ℕ) (r : IntervalStoreManager) (ss es : List ℕ) → c ≤ live → outcome (given a free) r ss es ≡ taken (t .manager) (t .starts) (t .ends) → record { slot = a; attributes = set held a class; table = counted r (set (t .counts) a 1) ss es } ≡ slotTaken c held t class
   unfolding slotTaken
-  taken-new a r ss es h e =
+  taken-new a free r ss es h e =
       rw (sym q, le-ltb live c h)
-      (let i = index-given t a r ss es e in
-      ap₂ (λ (n : ℕ) (x : Counted). record { slot = n; attributes = set held n class; table = x }) i (index-taken t a r ss es e))
+      (let i = index-given t a free r ss es e in
+      ap₂ (λ (n : ℕ) (x : Counted). record { slot = n; attributes = set held n class; table = x }) i (index-taken t a free r ss es e))
 
 module _ (c : ℕ) (held : List ℕ) (t : Counted) (class : ℕ) (w : WellCounted c t) (g : c ≤ length held) (d : Distinct c held (t .counts)) where
   abbrev r : ℕ

@@ -31,6 +31,12 @@ pub struct LabelManagers {
     pub attribute_manager: IntervalStoreManager,
 }
 
+// How many label indices and how many slots are free.
+pub struct LabelsFree {
+    pub labels: usize,
+    pub slots: usize,
+}
+
 // What taking a label gives: its index, and the managers after it.
 pub struct TakenLabel {
     pub label: LabelIndex,

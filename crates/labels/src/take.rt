@@ -6,8 +6,9 @@ ghost use Prim.Native.Nat.{_<_, _≤_};
 ghost use lib.ListN.{length};
 ghost use Rattle.labels.specs.Counted.{counted};
 ghost use Rattle.labels.specs.Labels.{classSlot, slotTaken, labelTaken, labelsWell};
-ghost use Rattle.labels.specs.Forms.{SlotReady, slotOutcome, held, entered, left, labelOutcome};
+ghost use Rattle.labels.specs.Forms.{FreeOf, SlotReady, slotOutcome, held, entered, left, labelOutcome};
 use crate::LabelManagers;
+use crate::LabelsFree;
 use crate::TakenLabel;
 use crate::classes::class_of;
 use interval_store_manager::IntervalStoreManager;
@@ -45,8 +46,9 @@ fn take_slot(
     attribute_starts: &mut [u16],
     attribute_ends: &[u16],
     class: u8,
+    free: usize,
 ) -> TakenSlot
-    requires { ⌜ SlotReady capacity (now attributes) (counted manager (now «attribute_count») (now «attribute_starts») (now «attribute_ends»)) ⌝ }
+    requires { ⌜ SlotReady capacity (now attributes) (counted manager (now «attribute_count») (now «attribute_starts») (now «attribute_ends»)) free ⌝ }
     ensures { λ r. ⌜ slotOutcome (r .slot) (now (attributes .exit)) (counted (r .manager) (now («attribute_count» .exit)) (now («attribute_starts» .exit)) (now («attribute_ends» .entry))) ≡ slotTaken capacity (now (attributes .entry)) (counted manager (now («attribute_count» .entry)) (now («attribute_starts» .entry)) (now («attribute_ends» .entry))) class ⌝ }
 {
     let live = class_slot(capacity, attributes, attribute_count, class);
@@ -57,7 +59,7 @@ fn take_slot(
             manager,
         };
     }
-    let taken = manager.get_unchecked(attribute_starts, attribute_ends);
+    let taken = manager.get_unchecked(attribute_starts, attribute_ends, free);
     let slot = taken.given.index;
     attributes[slot] = class;
     attribute_count[slot] = 1;
@@ -83,8 +85,9 @@ pub fn take_label(
     attribute_starts: &mut [u16],
     attribute_ends: &[u16],
     code: usize,
+    free: LabelsFree,
 ) -> TakenLabel
-    requires { ⌜ (labelsWell (now classes) capacity (held managers labels «label_attributes» «label_count» «label_starts» «label_ends» attributes «attribute_count» «attribute_starts» «attribute_ends») ≡ true) × ((code ≤ 23) × (0 < managers .«label_manager» .last_in_use)) ⌝ }
+    requires { ⌜ (labelsWell (now classes) capacity (held managers labels «label_attributes» «label_count» «label_starts» «label_ends» attributes «attribute_count» «attribute_starts» «attribute_ends») ≡ true) × ((code ≤ 23) × ((0 < managers .«label_manager» .last_in_use) × FreeOf free (held managers labels «label_attributes» «label_count» «label_starts» «label_ends» attributes «attribute_count» «attribute_starts» «attribute_ends»))) ⌝ }
     ensures { λ r. ⌜ labelOutcome (r .label) (left (r .managers) labels «label_attributes» «label_count» «label_starts» «label_ends» attributes «attribute_count» «attribute_starts» «attribute_ends») ≡ labelTaken (now (classes .entry)) capacity (entered managers labels «label_attributes» «label_count» «label_starts» «label_ends» attributes «attribute_count» «attribute_starts» «attribute_ends») code ⌝ }
 {
     let class = class_of(classes, code);
@@ -97,11 +100,12 @@ pub fn take_label(
         attribute_starts,
         attribute_ends,
         class,
+        free.slots,
     );
     let slot = s.slot;
     let attribute_manager = s.manager;
     let index_manager = managers.label_manager;
-    let taken = index_manager.get_unchecked(label_starts, label_ends);
+    let taken = index_manager.get_unchecked(label_starts, label_ends, free.labels);
     let index = taken.given.index;
     let label_manager = taken.manager;
     labels[index] = code as u8;

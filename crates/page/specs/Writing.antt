@@ -19,6 +19,7 @@ use Rattle.store_definitions.specs.Memory.{PointStore}
 use Rattle.store_definitions.specs.Parts.{tableLength}
 use Rattle.store_definitions.specs.WellFormed.{wellFormed}
 use Rattle.store_check.specs.Entries.{countsLive}
+use Rattle.store_check.specs.Figures.{counts-live}
 use Rattle.store_laws.specs.Sound.{sound}
 use Rattle.page.specs.Listed.{listed, listed-in, listed-out}
 use Rattle.page.specs.Page.{counted, cells, pageText, roomDecided, pageWritten, pageDecided, pageSpec}
@@ -32,15 +33,6 @@ pub record Readable (n live : ℕ) (counts location : List ℕ) : Type 0 where
   pub live-is : live ≡ countsLive n counts
 
 -- ---- lengths
-
-above-zero : (n : ℕ) → not (eqb n 0) ≡ ltb 0 n
-above-zero zero = refl
-above-zero (suc n) = rw (ne-eqb (suc n) 0 (λ e. omega arith), lt-ltb 0 (suc n) (omega arith))
-
-live-counted : (n : ℕ) (counts : List ℕ) → countsLive n counts ≡ countBelow n (counted counts)
-unfolding countsLive countBelow
-live-counted n counts =
-    sum-same n (λ i. one (not (eqb (getD counts i 0) 0))) (λ i. one (counted counts i)) (λ i h. ap one (above-zero (getD counts i 0)))
 
 count-grows : (d n : ℕ) (test : ℕ → Bool) → countBelow n test ≤ countBelow (n + d) test
 unfolding countBelow sumBelow
@@ -117,7 +109,7 @@ module _ (n : ℕ) (counts location : List ℕ) where
 
 module _ (n live : ℕ) (counts location : List ℕ) (r : Readable n live counts location) where
   pub live-lines : live * 19 ≡ length (pageText n counts location)
-  live-lines = rw (r .live-is, live-counted n counts) (sym (page-length n counts location))
+  live-lines = rw (r .live-is, counts-live n counts) (sym (page-length n counts location))
 
   pub live-most : live * 19 ≤ 19456
   live-most = rw live-lines (page-most n counts location (r .table-most))

@@ -56,7 +56,7 @@ pub fn page(
         let manager = s.index_manager;
         return page_unchecked(
             manager.capacity,
-            checked.live,
+            checked.figures.live,
             reference_count,
             location,
             text,

@@ -33,7 +33,7 @@ holdExportedCall words xs o =
 
 -- the record after an opening: a refused one leaves it
 abbrev pub holdOpenedWords : List ℕ → Answer → Hold → List ℕ
-holdOpenedWords words (kept i l w) h = words
+holdOpenedWords words (kept i l w left) h = words
 holdOpenedWords words waiting h = words
 holdOpenedWords words done h = holdOut words h
 holdOpenedWords words (is n) h = words

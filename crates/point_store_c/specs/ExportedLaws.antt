@@ -2,7 +2,7 @@
 use Prim.Native.Nat.{ℕ, _≤_, _<_}
 use native.Mathlib.Omega.{arith}
 use native.Mathlib.Decide.{decLt}
-use mathlib.Core.List.{List}
+use mathlib.Core.List.{List, [], _∷_}
 use mathlib.Core.Bool.{Bool, true, false, cond}
 use mathlib.Core.Path.{_≡_, refl, sym, _∙_, ap}
 use lib.ListN.{length, getD}
@@ -28,23 +28,23 @@ module _ (f : IntervalStoreManager → Outcome) (words : List ℕ) (m after : In
   met : (b : Answer) → a ≡ b → outcome b after starts ends ≡ f (managerIn words)
   met b e = ap (λ (x : Answer). outcome x after starts ends) (sym e) ∙ ensures ∙ ap f read-in
 
-  pub call-refused : (x n : ℕ) → a ≡ refused n → exported n words x starts ends ≡ exportedCall words x (f (managerIn words))
+  pub call-refused : (xs : List ℕ) (n : ℕ) → a ≡ refused n → exported n words xs starts ends ≡ exportedCall words xs (f (managerIn words))
   unfolding exportedCall
-  call-refused x n e = ap (exportedCall words x) (met (refused n) e)
+  call-refused xs n e = ap (exportedCall words xs) (met (refused n) e)
 
-  pub call-done : (x : ℕ) → a ≡ done → exported 0 (managerOut words after) x starts ends ≡ exportedCall words x (f (managerIn words))
+  pub call-done : (xs : List ℕ) → a ≡ done → exported 0 (managerOut words after) xs starts ends ≡ exportedCall words xs (f (managerIn words))
   unfolding exportedCall
-  call-done x e = ap (exportedCall words x) (met done e)
+  call-done xs e = ap (exportedCall words xs) (met done e)
 
-  pub call-given : (x i : ℕ) → a ≡ given i → exported 0 (managerOut words after) i starts ends ≡ exportedCall words x (f (managerIn words))
+  pub call-given : (xs : List ℕ) (i free : ℕ) → a ≡ given i free → exported 0 (managerOut words after) (i ∷ free ∷ []) starts ends ≡ exportedCall words xs (f (managerIn words))
   unfolding exportedCall
-  call-given x i e = ap (exportedCall words x) (met (given i) e)
+  call-given xs i free e = ap (exportedCall words xs) (met (given i free) e)
 
 -- whether an answer is a refusal
 abbrev pub isRefused : Answer → Bool
 isRefused (opened m) = false
 isRefused done = false
-isRefused (given i) = false
+isRefused (given i free) = false
 isRefused (holds n) = false
 isRefused (says b) = false
 isRefused (refused n) = true
@@ -88,7 +88,7 @@ change-refuses starts ends new =
 
 module _ (words : List ℕ) (size : ℕ) (starts ends : List ℕ) where
   -- a record too short
-  pub open-short : (n : ℕ) → length words < 2 → n ≡ cond (capacityAllowed size) 1 13 → exported n words 0 starts ends ≡ exportedOpening words size starts ends
+  pub open-short : (n : ℕ) → length words < 2 → n ≡ cond (capacityAllowed size) 1 13 → exported n words [] starts ends ≡ exportedOpening words size starts ends
   unfolding exportedOpening
   open-short n h e = rw (lt-leb 2 (length words) h, e)
 
@@ -97,10 +97,10 @@ module _ (words : List ℕ) (size : ℕ) (starts ends : List ℕ) where
     unfolding exportedOpening
     open-long b e = rw (le-leb 2 (length words) h) (ap (openedAs words) (ap (λ (x : Answer). opening x starts′ ends′) (sym e) ∙ ensures))
 
-    pub open-refused : (n : ℕ) → a ≡ refused n → exported n words 0 starts′ ends′ ≡ exportedOpening words size starts ends
+    pub open-refused : (n : ℕ) → a ≡ refused n → exported n words [] starts′ ends′ ≡ exportedOpening words size starts ends
     open-refused n e = open-long (refused n) e
 
-    pub open-done : (m : IntervalStoreManager) → a ≡ opened m → exported 0 (managerOut words m) 0 starts′ ends′ ≡ exportedOpening words size starts ends
+    pub open-done : (m : IntervalStoreManager) → a ≡ opened m → exported 0 (managerOut words m) [] starts′ ends′ ≡ exportedOpening words size starts ends
     open-done m e = open-long (opened m) e
 
 -- a bool's cast
@@ -108,18 +108,18 @@ pub cast-one : (b : Bool) → boolByte b ≡ one b
 cast-one true = refl
 cast-one false = refl
 
-module _ (f : IntervalStoreManager → Answer) (words : List ℕ) (m : IntervalStoreManager) (a : Answer) (read-in : m ≡ managerIn words) (ensures : a ≡ f m) (x : ℕ) where
+module _ (f : IntervalStoreManager → Answer) (words : List ℕ) (m : IntervalStoreManager) (a : Answer) (read-in : m ≡ managerIn words) (ensures : a ≡ f m) (xs : List ℕ) where
   said : (b : Answer) → a ≡ b → b ≡ f (managerIn words)
   said b e = sym e ∙ ensures ∙ ap f read-in
 
-  pub reading-refused : (n : ℕ) → a ≡ refused n → read n x ≡ exportedReading x (f (managerIn words))
+  pub reading-refused : (n : ℕ) → a ≡ refused n → read n xs ≡ exportedReading xs (f (managerIn words))
   unfolding exportedReading
-  reading-refused n e = ap (exportedReading x) (said (refused n) e)
+  reading-refused n e = ap (exportedReading xs) (said (refused n) e)
 
-  pub reading-holds : (n : ℕ) → a ≡ holds n → read 0 n ≡ exportedReading x (f (managerIn words))
+  pub reading-holds : (n : ℕ) → a ≡ holds n → read 0 (n ∷ []) ≡ exportedReading xs (f (managerIn words))
   unfolding exportedReading
-  reading-holds n e = ap (exportedReading x) (said (holds n) e)
+  reading-holds n e = ap (exportedReading xs) (said (holds n) e)
 
-  pub reading-says : (b : Bool) → a ≡ says b → read 0 (boolByte b) ≡ exportedReading x (f (managerIn words))
+  pub reading-says : (b : Bool) → a ≡ says b → read 0 (boolByte b ∷ []) ≡ exportedReading xs (f (managerIn words))
   unfolding exportedReading
-  reading-says b e = rw (cast-one b) (ap (exportedReading x) (said (says b) e))
+  reading-says b e = rw (cast-one b) (ap (exportedReading xs) (said (says b) e))

@@ -22,7 +22,7 @@ probesExportedCall words xs o =
 
 -- the record after an opening: a refused one leaves it
 abbrev pub probesOpenedWords : List ℕ → Answer → Probes → List ℕ
-probesOpenedWords words (kept i l w) p = words
+probesOpenedWords words (kept i l w left) p = words
 probesOpenedWords words waiting p = words
 probesOpenedWords words done p = probesOut words p
 probesOpenedWords words (is n) p = words

@@ -18,7 +18,7 @@ use Rattle.point_store_c.specs.Records.{storeOut, recorded}
 
 -- the return value: 0, or the refusal's number
 abbrev pub returned : Answer → ℕ
-returned (kept i l w) = 0
+returned (kept i l w left) = 0
 returned waiting = 0
 returned done = 0
 returned (is n) = 0
@@ -31,10 +31,10 @@ abbrev pub joinedNumber : Laid → ℕ
 joinedNumber (atLaid.Whole place) = 0
 joinedNumber (atLaid.Joined place) = 1
 
--- the lent numbers after the call, before which they were xs. An add lends five: kept (1, or 0 for Waiting), and, written for
--- a kept add alone, index, label index, joined and place
+-- the lent numbers after the call, before which they were xs. An add lends six: kept (1, or 0 for Waiting), and, written for
+-- a kept add alone, index, label index, joined, place and how many indices remain free
 abbrev pub answered : List ℕ → Answer → List ℕ
-answered xs (kept i l w) = 1 ∷ i ∷ l ∷ joinedNumber w ∷ placeOf w ∷ []
+answered xs (kept i l w left) = 1 ∷ i ∷ l ∷ joinedNumber w ∷ placeOf w ∷ left ∷ []
 answered xs waiting = set xs 0 0
 answered xs done = xs
 answered xs (is n) = n ∷ []
@@ -104,7 +104,7 @@ shapeIn d n c i shingling rotation labels =
 
 -- the record after an opening: a refused one leaves it
 abbrev pub openedWords : List ℕ → Answer → Store → List ℕ
-openedWords words (kept i l w) s = words
+openedWords words (kept i l w left) s = words
 openedWords words waiting s = words
 openedWords words done s = storeOut words s
 openedWords words (is n) s = words

@@ -7,9 +7,8 @@ use mathlib.Core.List.{List, [], _∷_, _++_, append-assoc}
 use mathlib.Core.Path.{_≡_, refl, sym, ap, _∙_}
 use lib.Dec.{leb}
 use lib.ListN.{length, getD, drop, length-append}
-use lib.Seq.{sets, sets-eq, set-getD, getD-append-add}
+use lib.Seq.{set-getD}
 use borrow.Author.Tests.{le-leb, lt-leb}
-use Rattle.class_words.specs.WordsLaws.{sets-after}
 use Rattle.store_definitions.specs.declared.Store.{Store}
 use Rattle.store_definitions.specs.Bounds.{boundsHold}
 use Rattle.store_definitions.specs.WellFormed.{wellFormed}
@@ -18,34 +17,22 @@ use Rattle.hold_definitions.specs.Opening.{noHold}
 use Rattle.hold_definitions.specs.Memory.{HoldMemory, pointHold}
 use Rattle.hold_definitions.specs.WellFormed.{holdWellFormed}
 use Rattle.point_store_c.specs.Records.{storeWords, storeOut, legalRecord, storeIn, recorded}
-use Rattle.point_store_c.specs.RecordLaws.{Sized, length-words, written-in, record-kept, illegal-ill-formed}
+use Rattle.point_store_c.specs.RecordLaws.{Sized, length-words, tail-out, tail-word, written-in, record-kept, illegal-ill-formed}
 use Rattle.point_store_c.specs.HoldRecords.{holdWords, holdOut, tailOut, holdIn, holdRecorded}
 
 -- the first 41 words are the hold's, and a longer record keeps its rest
 pub hold-out-words : (words : List ℕ) (h : Hold) → 41 ≤ length words → length (h .store .classes) ≡ 24 → holdOut words h ≡ holdWords h ++ drop 41 words
-unfolding holdOut tailOut storeOut
-hold-out-words words h l k =
-    let w = storeWords (h .store) in
-    let sized : length w ≡ 39 = length-words (h .store) k in
-    let more : length (holdWords h) ≡ 41 = length-append w (h .width ∷ h .held ∷ []) ∙ (rw sized) in
-    ap (λ (n : ℕ). sets (sets words 0 w) n (h .width ∷ h .held ∷ [])) (let e : 39 ≡ 0 + length w = omega arith in e)
-    ∙ sets-after words 0 w (h .width ∷ h .held ∷ [])
-    ∙ sets-eq (holdWords h) words 0 (omega arith)
-    ∙ ap (λ (n : ℕ). holdWords h ++ drop n words) (let e : 0 + length (holdWords h) ≡ 41 = omega arith in e)
+unfolding holdOut tailOut
+hold-out-words words h l k = tail-out (h .store) k words (h .width ∷ h .held ∷ []) l
 
 module _ (h : Hold) (z : Sized (h .store)) (rest : List ℕ) where
   abbrev tail : List ℕ
   tail = h .width ∷ h .held ∷ rest
 
-  word : (k : ℕ) → getD (storeWords (h .store) ++ tail) (39 + k) 0 ≡ getD tail k 0
-  word k =
-      ap (λ (n : ℕ). getD (storeWords (h .store) ++ tail) (n + k) 0) (sym (length-words (h .store) (z .codes)))
-      ∙ getD-append-add (storeWords (h .store)) tail k 0
-
   tail-read : holdIn (storeWords (h .store) ++ tail) ≡ h
   unfolding holdIn
   tail-read =
-      rw (le-leb 41 (length (storeWords (h .store) ++ tail)) (omega (arith, length-append (storeWords (h .store)) tail, length-words (h .store) (z .codes))), word 0, word 1)
+      rw (le-leb 41 (length (storeWords (h .store) ++ tail)) (omega (arith, length-append (storeWords (h .store)) tail, length-words (h .store) (z .codes))), tail-word (h .store) (z .codes) tail 0, tail-word (h .store) (z .codes) tail 1)
       (ap (λ (s : Store). record { store = s; width = h .width; held = h .held }) (written-in (h .store) tail z))
 
   written-hold : holdIn (holdWords h ++ rest) ≡ h

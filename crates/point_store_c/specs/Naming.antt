@@ -7,21 +7,20 @@ use lib.Dec.{leb}
 use lib.ListN.{length, drop}
 use borrow.Author.Tests.{le-leb, lt-leb}
 
--- 'point store 0.9.0; requests: 1-7; port of krcf pointstore.rs 05b18fcda4; x86-64' in ASCII, filled up with spaces, a line to
--- a word
+-- 'point store 0.10.0; requests: 1-8; port of krcf pointstore.rs 05b18fcda4; x86-64' in ASCII, a line to a word
 unfoldable pub nameText : List ℕ
 nameText =
     112 ∷ 111 ∷ 105 ∷ 110 ∷ 116 ∷ 32 ∷
     115 ∷ 116 ∷ 111 ∷ 114 ∷ 101 ∷ 32 ∷
-    48 ∷ 46 ∷ 57 ∷ 46 ∷ 48 ∷ 59 ∷ 32 ∷
+    48 ∷ 46 ∷ 49 ∷ 48 ∷ 46 ∷ 48 ∷ 59 ∷ 32 ∷
     114 ∷ 101 ∷ 113 ∷ 117 ∷ 101 ∷ 115 ∷ 116 ∷ 115 ∷ 58 ∷ 32 ∷
-    49 ∷ 45 ∷ 55 ∷ 59 ∷ 32 ∷
+    49 ∷ 45 ∷ 56 ∷ 59 ∷ 32 ∷
     112 ∷ 111 ∷ 114 ∷ 116 ∷ 32 ∷
     111 ∷ 102 ∷ 32 ∷
     107 ∷ 114 ∷ 99 ∷ 102 ∷ 32 ∷
     112 ∷ 111 ∷ 105 ∷ 110 ∷ 116 ∷ 115 ∷ 116 ∷ 111 ∷ 114 ∷ 101 ∷ 46 ∷ 114 ∷ 115 ∷ 32 ∷
     48 ∷ 53 ∷ 98 ∷ 49 ∷ 56 ∷ 102 ∷ 99 ∷ 100 ∷ 97 ∷ 52 ∷ 59 ∷ 32 ∷
-    120 ∷ 56 ∷ 54 ∷ 45 ∷ 54 ∷ 52 ∷ 32 ∷
+    120 ∷ 56 ∷ 54 ∷ 45 ∷ 54 ∷ 52 ∷
     []
 
 -- what a C caller has after asking: the return value, its lent slice and its lent number

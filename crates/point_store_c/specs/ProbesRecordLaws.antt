@@ -1,12 +1,13 @@
--- A record comes back from its product, and an illegal record holds no product.
-use Prim.Native.Nat.{ℕ, _≤_, _<_}
+-- A product comes back from its record, a record from its product, and an illegal record holds no product.
+use Prim.Native.Nat.{ℕ, _+_, _≤_, _<_}
+use native.Mathlib.Omega.{arith}
 use mathlib.Core.Bool.{Bool, true, false}
-use mathlib.Core.List.{List}
-use mathlib.Core.Path.{_≡_, refl, ap}
-use lib.Dec.{leb}
-use lib.ListN.{length, getD}
+use mathlib.Core.List.{List, [], _∷_, _++_, append-assoc}
+use mathlib.Core.Path.{_≡_, refl, ap, _∙_}
+use lib.Dec.{leb, ltb}
+use lib.ListN.{length, getD, drop, length-append}
 use lib.Seq.{set-getD}
-use borrow.Author.Tests.{le-leb, lt-leb, leb-true, ltb-true}
+use borrow.Author.Tests.{le-leb, lt-leb, lt-ltb, leb-true, ltb-true}
 use Rattle.terms.specs.Below.{both}
 use Rattle.store_definitions.specs.declared.Store.{Store}
 use Rattle.store_definitions.specs.Bounds.{boundsHold}
@@ -16,9 +17,9 @@ use Rattle.probes_definitions.specs.declared.Probes.{Probes}
 use Rattle.probes_definitions.specs.Opening.{noProbes}
 use Rattle.probes_definitions.specs.Memory.{pointProbes}
 use Rattle.probes_definitions.specs.WellFormed.{probesWellFormed}
-use Rattle.point_store_c.specs.Records.{storeOut, storeIn, recorded}
-use Rattle.point_store_c.specs.RecordLaws.{record-kept}
-use Rattle.point_store_c.specs.ProbesRecords.{probesOut, talliesOut, legalTallies, legalProbes, talliesRead, probesIn, probesRecorded}
+use Rattle.point_store_c.specs.Records.{storeWords, storeOut, storeIn, recorded}
+use Rattle.point_store_c.specs.RecordLaws.{Sized, length-words, tail-out, tail-word, written-in, record-kept}
+use Rattle.point_store_c.specs.ProbesRecords.{tallyWords, probesOut, talliesOut, legalTallies, legalProbes, talliesRead, probesIn, probesRecorded}
 
 -- ---- what the code's tests show
 
@@ -101,3 +102,49 @@ probes-record-kept words = go (legalProbes words) refl
 pub illegal-probes-ill-formed : (words : List ℕ) (m : Memory ℕ) → legalProbes words ≡ false → probesWellFormed (pointProbes (probesIn words) m) ≡ false
 unfolding probesIn probesWellFormed wellFormed boundsHold
 illegal-probes-ill-formed words m e = rw e refl
+
+-- ---- a product written is read again
+
+-- eight tallies are their own words
+tally-words : (ts : List ℕ) → length ts ≡ 8 → tallyWords ts ≡ ts
+tally-words [] l = absurd (omega arith)
+tally-words (a ∷ []) l = absurd (omega arith)
+tally-words (a ∷ b ∷ []) l = absurd (omega arith)
+tally-words (a ∷ b ∷ c ∷ []) l = absurd (omega arith)
+tally-words (a ∷ b ∷ c ∷ d ∷ []) l = absurd (omega arith)
+tally-words (a ∷ b ∷ c ∷ d ∷ e ∷ []) l = absurd (omega arith)
+tally-words (a ∷ b ∷ c ∷ d ∷ e ∷ f ∷ []) l = absurd (omega arith)
+tally-words (a ∷ b ∷ c ∷ d ∷ e ∷ f ∷ g ∷ []) l = absurd (omega arith)
+tally-words (a ∷ b ∷ c ∷ d ∷ e ∷ f ∷ g ∷ h ∷ []) l = refl
+tally-words (a ∷ b ∷ c ∷ d ∷ e ∷ f ∷ g ∷ h ∷ i ∷ ts) l = absurd (omega arith)
+
+-- eight tallies of 32 bits, as every product of the code's has
+pub record TalliesSized (p : Probes) : Type 0 where
+  pub store : Sized (p .store)
+  pub eight : length (p .tallies) ≡ 8
+  pub small : (k : ℕ) → k < 8 → getD (p .tallies) k 0 < 4294967296
+
+module _ (p : Probes) (z : TalliesSized p) (rest : List ℕ) where
+  abbrev tail : List ℕ
+  tail = tallyWords (p .tallies) ++ rest
+
+  abbrev at : (k : ℕ) → getD (storeWords (p .store) ++ tail) (39 + k) 0 ≡ getD tail k 0
+  at k = tail-word (p .store) (z .store .codes) tail k
+
+  abbrev fits : (k : ℕ) → k < 8 → ltb (getD (p .tallies) k 0) 4294967296 ≡ true
+  fits k l = lt-ltb (getD (p .tallies) k 0) 4294967296 (z .small k l)
+
+  written-probes : probesIn (storeWords (p .store) ++ tail) ≡ p
+  unfolding probesIn legalProbes legalTallies
+  written-probes =
+      rw (le-leb 47 (length (storeWords (p .store) ++ tail)) (omega (arith, length-append (storeWords (p .store)) tail, length-words (p .store) (z .store .codes))), at 0, at 1, at 2, at 3, at 4, at 5, at 6, at 7)
+      (rw (fits 0 (omega arith), fits 1 (omega arith), fits 2 (omega arith), fits 3 (omega arith), fits 4 (omega arith), fits 5 (omega arith), fits 6 (omega arith), fits 7 (omega arith))
+      (ap (λ (s : Store). record { store = s; tallies = tallyWords (p .tallies) }) (written-in (p .store) tail (z .store))
+      ∙ ap (λ (ts : List ℕ). record { store = p .store; tallies = ts }) (tally-words (p .tallies) (z .eight))))
+
+-- the first 47 words are the product's
+pub probes-in-out : (words : List ℕ) (p : Probes) → 47 ≤ length words → TalliesSized p → probesIn (probesOut words p) ≡ p
+unfolding probesOut talliesOut
+probes-in-out words p l z =
+    ap probesIn (tail-out (p .store) (z .store .codes) words (tallyWords (p .tallies)) l ∙ append-assoc (storeWords (p .store)) (tallyWords (p .tallies)) (drop 47 words))
+    ∙ written-probes p z (drop 47 words)

@@ -11,7 +11,7 @@ use borrow.Author.Tests.{le-leb, lt-leb, lt-ltb, leb-true, ltb-true}
 use mir.Val.{boolByte}
 use Rattle.terms.specs.Below.{one, both}
 use Rattle.class_words.specs.Words.{classesLegal}
-use Rattle.class_words.specs.WordsLaws.{small-make, read-written}
+use Rattle.class_words.specs.WordsLaws.{small-make, read-written, sets-after}
 use Rattle.store_definitions.specs.declared.Store.{Store}
 use Rattle.store_definitions.specs.Memory.{Memory, pointStore}
 use Rattle.store_definitions.specs.Bounds.{boundsHold}
@@ -35,6 +35,24 @@ unfolding storeOut
 out-words words s l k =
     sets-eq (storeWords s) words 0 (omega (arith, k))
     ∙ ap (λ (n : ℕ). storeWords s ++ drop n words) (let e : 0 + length (storeWords s) ≡ 39 = omega (arith, k) in e)
+
+-- a record that is longer has words of its own behind the store's
+module _ (s : Store) (k : length (s .classes) ≡ 24) where
+  pub tail-out : (words tail : List ℕ) → 39 + length tail ≤ length words → sets (storeOut words s) 39 tail ≡ (storeWords s ++ tail) ++ drop (39 + length tail) words
+  unfolding storeOut
+  tail-out words tail l =
+      let w = storeWords s in
+      let sized : length w ≡ 39 = length-words s k in
+      let more : length (w ++ tail) ≡ 39 + length tail = length-append w tail ∙ (rw sized) in
+      ap (λ (n : ℕ). sets (sets words 0 w) n tail) (let e : 39 ≡ 0 + length w = omega arith in e)
+      ∙ sets-after words 0 w tail
+      ∙ sets-eq (w ++ tail) words 0 (omega arith)
+      ∙ ap (λ (n : ℕ). (w ++ tail) ++ drop n words) (let e : 0 + length (w ++ tail) ≡ 39 + length tail = omega arith in e)
+
+  pub tail-word : (tail : List ℕ) (n : ℕ) → getD (storeWords s ++ tail) (39 + n) 0 ≡ getD tail n 0
+  tail-word tail n =
+      ap (λ (m : ℕ). getD (storeWords s ++ tail) (m + n) 0) (sym (length-words s k))
+      ∙ getD-append-add (storeWords s) tail n 0
 
 -- the words before the classes as the code stores them, a flag by its cast
 abbrev pub castWords : Store → List ℕ

@@ -16,7 +16,7 @@ use Rattle.store_definitions.specs.Memory.{Memory, PointStore, pointStore}
 use Rattle.store_definitions.specs.Answers.{Answer, kept, waiting, done, is, says, refused, refusedAfter, Outcome, outcome}
 use Rattle.store_definitions.specs.Decisions.{andThen, formDecided, carriedOut}
 use Rattle.store_definitions.specs.Parts.{Rows, rowsOf, withRows}
-use Rattle.store_definitions.specs.Adding.{AddDecided, keep, wait, refuseAdd, labelled, sequenced, tableGrown, placed, rowOf, labelGiven, indexGiven, overflows, laidHow, keptAfter, keeps, addDecided, addCarriedOut, addSpec}
+use Rattle.store_definitions.specs.Adding.{AddDecided, keep, wait, refuseAdd, labelled, sequenced, tableGrown, placed, rowOf, labelGiven, indexGiven, freeLeft, overflows, laidHow, keptAfter, keeps, addDecided, addCarriedOut, addSpec}
 use Rattle.store_definitions.specs.Counting.{Pairing, incTest, decTest, incremented, decremented, incSpec, decSpec, pairDecided, pairDone, unlessRefused, adjustFrom, adjustSpec}
 use Rattle.store_definitions.specs.Rows.{roomMade, compactSpec}
 use Rattle.store_definitions.specs.WellFormed.{wellFormed}
@@ -122,7 +122,7 @@ module _ {E : Type 0} (eq : E → E → Bool) (zeroElement : E) where
       let s = p .header in
       let row = rowOf p point in
       let r = roomMade zeroElement s (rowsOf p) in
-      eitherCall p (outcome (refused 10) (withRows r p)) (outcome (kept (indexGiven p) (labelGiven p) (laidHow eq s r row)) (keptAfter eq r row p point code)) (overflows eq s r row) (rows-kept p r) (kept-kept r row p point code)
+      eitherCall p (outcome (refused 10) (withRows r p)) (outcome (kept (indexGiven p) (labelGiven p) (laidHow eq s r row) (freeLeft p)) (keptAfter eq r row p point code)) (overflows eq s r row) (rows-kept p r) (kept-kept r row p point code)
 
   pub add-kept : (p : PointStore E) (point : List E) (code : ℕ) → Kept p (addSpec eq zeroElement p point code .after)
   unfolding addSpec
@@ -225,7 +225,7 @@ module _ {E : Type 0} (eq : E → E → Bool) (zeroElement : E) where
         (record { classes-same = k .classes-same; capacity-same = k .capacity-same })
 
     held-kept : (a : Answer) (q : PointStore E) → Kept (holdStore h) q → KeptIn (heldAfter h a q)
-    held-kept (kept i l laid) q k = holding-kept _ _ q k
+    held-kept (kept i l laid left) q k = holding-kept _ _ q k
     held-kept waiting q k = inside q k
     held-kept done q k = inside q k
     held-kept (is n) q k = inside q k

@@ -93,8 +93,9 @@ pub fn added_out(
     label_index: &mut u64,
     joined: &mut u64,
     place: &mut u64,
+    free_indices: &mut u64,
 ) -> u64
-    ensures { λ r. ⌜ read r (now (kept .exit) ∷ now (index .exit) ∷ now («label_index» .exit) ∷ now (joined .exit) ∷ now (place .exit) ∷ []) ≡ exportedReading (now (kept .entry) ∷ now (index .entry) ∷ now («label_index» .entry) ∷ now (joined .entry) ∷ now (place .entry) ∷ []) (addedMeans answer) ⌝ }
+    ensures { λ r. ⌜ read r (now (kept .exit) ∷ now (index .exit) ∷ now («label_index» .exit) ∷ now (joined .exit) ∷ now (place .exit) ∷ now («free_indices» .exit) ∷ []) ≡ exportedReading (now (kept .entry) ∷ now (index .entry) ∷ now («label_index» .entry) ∷ now (joined .entry) ∷ now (place .entry) ∷ now («free_indices» .entry) ∷ []) (addedMeans answer) ⌝ }
 {
     match answer {
         Added::Refused(why) => refusal_number(why),
@@ -106,6 +107,7 @@ pub fn added_out(
             *kept = 1;
             *index = k.index.0 as u64;
             *label_index = k.label.0 as u64;
+            *free_indices = k.free_indices as u64;
             let laid = k.laid;
             laid_out(laid, joined, place);
             0

@@ -153,8 +153,9 @@ pub extern "C" fn ps_hold_add(
     label_index: &mut u64,
     joined: &mut u64,
     place: &mut u64,
+    free_indices: &mut u64,
 ) -> u64
-    ensures { λ r. ⌜ holdExported r (now (words .exit)) (now (kept .exit) ∷ now (index .exit) ∷ now («label_index» .exit) ∷ now (joined .exit) ∷ now (place .exit) ∷ []) (holdLeft store «last_known_shingle» «reference_count» location «index_starts» «index_ends» labels «label_attributes» «label_count» «label_starts» «label_ends» attributes «attribute_count» «attribute_starts» «attribute_ends» «held_indices» «held_labels») ≡ holdExportedCall (now (words .entry)) (now (kept .entry) ∷ now (index .entry) ∷ now («label_index» .entry) ∷ now (joined .entry) ∷ now (place .entry) ∷ []) (holdAddSpec wordsEqual 0 (pointHold (holdIn (now (words .entry))) (holdEntered store «last_known_shingle» «reference_count» location «index_starts» «index_ends» labels «label_attributes» «label_count» «label_starts» «label_ends» attributes «attribute_count» «attribute_starts» «attribute_ends» «held_indices» «held_labels»)) (now (point .entry)) label) ⌝ }
+    ensures { λ r. ⌜ holdExported r (now (words .exit)) (now (kept .exit) ∷ now (index .exit) ∷ now («label_index» .exit) ∷ now (joined .exit) ∷ now (place .exit) ∷ now («free_indices» .exit) ∷ []) (holdLeft store «last_known_shingle» «reference_count» location «index_starts» «index_ends» labels «label_attributes» «label_count» «label_starts» «label_ends» attributes «attribute_count» «attribute_starts» «attribute_ends» «held_indices» «held_labels») ≡ holdExportedCall (now (words .entry)) (now (kept .entry) ∷ now (index .entry) ∷ now («label_index» .entry) ∷ now (joined .entry) ∷ now (place .entry) ∷ now («free_indices» .entry) ∷ []) (holdAddSpec wordsEqual 0 (pointHold (holdIn (now (words .entry))) (holdEntered store «last_known_shingle» «reference_count» location «index_starts» «index_ends» labels «label_attributes» «label_count» «label_starts» «label_ends» attributes «attribute_count» «attribute_starts» «attribute_ends» «held_indices» «held_labels»)) (now (point .entry)) label) ⌝ }
 {
     let h = hold_in(words);
     let result = hold::add(
@@ -182,7 +183,15 @@ pub extern "C" fn ps_hold_add(
     let after = result.hold;
     let answer = result.answer;
     hold_out(words, after);
-    added_out(answer, kept, index, label_index, joined, place)
+    added_out(
+        answer,
+        kept,
+        index,
+        label_index,
+        joined,
+        place,
+        free_indices,
+    )
 }
 
 // The held point indices, oldest first.

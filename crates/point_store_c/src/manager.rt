@@ -1,5 +1,6 @@
 // The interval manager's calls. The words of its record are the capacity and then the entries in use; a record of fewer
 // words is ill-formed.
+ghost use mathlib.Core.List.{[], _∷_};
 ghost use mathlib.Core.Path.{_≡_};
 ghost use Prim.Native.Nat.{_≤_};
 ghost use lib.ListN.{length};
@@ -48,7 +49,7 @@ pub extern "C" fn ps_manager_new(
     ends: &mut [u16],
     size: usize,
 ) -> u64
-    ensures { λ r. ⌜ exported r (now (words .exit)) 0 (now (starts .exit)) (now (ends .exit)) ≡ exportedOpening (now (words .entry)) size (now (starts .entry)) (now (ends .entry)) ⌝ }
+    ensures { λ r. ⌜ exported r (now (words .exit)) [] (now (starts .exit)) (now (ends .exit)) ≡ exportedOpening (now (words .entry)) size (now (starts .entry)) (now (ends .entry)) ⌝ }
 {
     if words.len() < RECORD_WORDS {
         if capacity_allowed(size) {
@@ -73,7 +74,7 @@ pub extern "C" fn ps_manager_change_capacity(
     ends: &mut [u16],
     new_capacity: usize,
 ) -> u64
-    ensures { λ r. ⌜ exported r (now (words .exit)) 0 (now (starts .exit)) (now (ends .exit)) ≡ exportedCall (now (words .entry)) 0 (changeSpec (managerIn (now (words .entry))) (now (starts .entry)) (now (ends .entry)) «new_capacity») ⌝ }
+    ensures { λ r. ⌜ exported r (now (words .exit)) [] (now (starts .exit)) (now (ends .exit)) ≡ exportedCall (now (words .entry)) [] (changeSpec (managerIn (now (words .entry))) (now (starts .entry)) (now (ends .entry)) «new_capacity») ⌝ }
 {
     let result = manager_in(words).change_capacity(starts, ends, new_capacity);
     let answer = result.answer;
@@ -93,8 +94,9 @@ pub extern "C" fn ps_manager_get(
     starts: &mut [u16],
     ends: &[u16],
     index: &mut u64,
+    free_indices: &mut u64,
 ) -> u64
-    ensures { λ r. ⌜ exported r (now (words .exit)) (now (index .exit)) (now (starts .exit)) (now (ends .entry)) ≡ exportedCall (now (words .entry)) (now (index .entry)) (getSpec (managerIn (now (words .entry))) (now (starts .entry)) (now (ends .entry))) ⌝ }
+    ensures { λ r. ⌜ exported r (now (words .exit)) (now (index .exit) ∷ now («free_indices» .exit) ∷ []) (now (starts .exit)) (now (ends .entry)) ≡ exportedCall (now (words .entry)) (now (index .entry) ∷ now («free_indices» .entry) ∷ []) (getSpec (managerIn (now (words .entry))) (now (starts .entry)) (now (ends .entry))) ⌝ }
 {
     let result = manager_in(words).get(starts, ends);
     let answer = result.answer;
@@ -104,6 +106,7 @@ pub extern "C" fn ps_manager_get(
         Got::Given(given) => {
             manager_out(words, m);
             *index = given.index as u64;
+            *free_indices = given.free as u64;
             0
         }
     }
@@ -116,7 +119,7 @@ pub extern "C" fn ps_manager_release(
     ends: &mut [u16],
     index: usize,
 ) -> u64
-    ensures { λ r. ⌜ exported r (now (words .exit)) 0 (now (starts .exit)) (now (ends .exit)) ≡ exportedCall (now (words .entry)) 0 (releaseSpec (managerIn (now (words .entry))) (now (starts .entry)) (now (ends .entry)) index) ⌝ }
+    ensures { λ r. ⌜ exported r (now (words .exit)) [] (now (starts .exit)) (now (ends .exit)) ≡ exportedCall (now (words .entry)) [] (releaseSpec (managerIn (now (words .entry))) (now (starts .entry)) (now (ends .entry)) index) ⌝ }
 {
     let result = manager_in(words).release(starts, ends, index);
     let answer = result.answer;
@@ -137,7 +140,7 @@ pub extern "C" fn ps_manager_used(
     ends: &[u16],
     used: &mut u64,
 ) -> u64
-    ensures { λ r. ⌜ read r (now (used .exit)) ≡ exportedReading (now (used .entry)) (usedSpec (managerIn (now (words .entry))) (now (starts .entry)) (now (ends .entry))) ⌝ }
+    ensures { λ r. ⌜ read r (now (used .exit) ∷ []) ≡ exportedReading (now (used .entry) ∷ []) (usedSpec (managerIn (now (words .entry))) (now (starts .entry)) (now (ends .entry))) ⌝ }
 {
     let answer = manager_in(words).used(starts, ends);
     match answer {
@@ -157,7 +160,7 @@ pub extern "C" fn ps_manager_is_empty(
     ends: &[u16],
     empty: &mut u64,
 ) -> u64
-    ensures { λ r. ⌜ read r (now (empty .exit)) ≡ exportedReading (now (empty .entry)) (isEmptySpec (managerIn (now (words .entry))) (now (starts .entry)) (now (ends .entry))) ⌝ }
+    ensures { λ r. ⌜ read r (now (empty .exit) ∷ []) ≡ exportedReading (now (empty .entry) ∷ []) (isEmptySpec (managerIn (now (words .entry))) (now (starts .entry)) (now (ends .entry))) ⌝ }
 {
     let answer = manager_in(words).is_empty(starts, ends);
     match answer {
@@ -176,7 +179,7 @@ pub extern "C" fn ps_manager_get_capacity(
     ends: &[u16],
     capacity: &mut u64,
 ) -> u64
-    ensures { λ r. ⌜ read r (now (capacity .exit)) ≡ exportedReading (now (capacity .entry)) (getCapacitySpec (managerIn (now (words .entry))) (now (starts .entry)) (now (ends .entry))) ⌝ }
+    ensures { λ r. ⌜ read r (now (capacity .exit) ∷ []) ≡ exportedReading (now (capacity .entry) ∷ []) (getCapacitySpec (managerIn (now (words .entry))) (now (starts .entry)) (now (ends .entry))) ⌝ }
 {
     let answer = manager_in(words).get_capacity(starts, ends);
     match answer {

@@ -152,8 +152,9 @@ pub extern "C" fn ps_probes_set(
     label_index: &mut u64,
     joined: &mut u64,
     place: &mut u64,
+    free_indices: &mut u64,
 ) -> u64
-    ensures { λ r. ⌜ exported r (now (words .exit)) (now (kept .exit) ∷ now (index .exit) ∷ now («label_index» .exit) ∷ now (joined .exit) ∷ now (place .exit) ∷ []) (left store «last_known_shingle» «reference_count» location «index_starts» «index_ends» labels «label_attributes» «label_count» «label_starts» «label_ends» attributes «attribute_count» «attribute_starts» «attribute_ends») ≡ probesExportedCall (now (words .entry)) (now (kept .entry) ∷ now (index .entry) ∷ now («label_index» .entry) ∷ now (joined .entry) ∷ now (place .entry) ∷ []) (setKindsSpec wordsEqual 0 (pointProbes (probesIn (now (words .entry))) (entered store «last_known_shingle» «reference_count» location «index_starts» «index_ends» labels «label_attributes» «label_count» «label_starts» «label_ends» attributes «attribute_count» «attribute_starts» «attribute_ends»)) (now (kinds .entry)) (now (floats .entry)) label) ⌝ }
+    ensures { λ r. ⌜ exported r (now (words .exit)) (now (kept .exit) ∷ now (index .exit) ∷ now («label_index» .exit) ∷ now (joined .exit) ∷ now (place .exit) ∷ now («free_indices» .exit) ∷ []) (left store «last_known_shingle» «reference_count» location «index_starts» «index_ends» labels «label_attributes» «label_count» «label_starts» «label_ends» attributes «attribute_count» «attribute_starts» «attribute_ends») ≡ probesExportedCall (now (words .entry)) (now (kept .entry) ∷ now (index .entry) ∷ now («label_index» .entry) ∷ now (joined .entry) ∷ now (place .entry) ∷ now («free_indices» .entry) ∷ []) (setKindsSpec wordsEqual 0 (pointProbes (probesIn (now (words .entry))) (entered store «last_known_shingle» «reference_count» location «index_starts» «index_ends» labels «label_attributes» «label_count» «label_starts» «label_ends» attributes «attribute_count» «attribute_starts» «attribute_ends»)) (now (kinds .entry)) (now (floats .entry)) label) ⌝ }
 {
     let p = probes_in(words);
     let result = probes::set_words(
@@ -180,7 +181,15 @@ pub extern "C" fn ps_probes_set(
     let after = result.probes;
     let answer = result.answer;
     probes_out(words, after);
-    added_out(answer, kept, index, label_index, joined, place)
+    added_out(
+        answer,
+        kept,
+        index,
+        label_index,
+        joined,
+        place,
+        free_indices,
+    )
 }
 
 // How many estimates each probe has had.

@@ -39,8 +39,9 @@ pub extern "C" fn ps_add(
     label_index: &mut u64,
     joined: &mut u64,
     place: &mut u64,
+    free_indices: &mut u64,
 ) -> u64
-    ensures { λ r. ⌜ exported r (now (words .exit)) (now (kept .exit) ∷ now (index .exit) ∷ now («label_index» .exit) ∷ now (joined .exit) ∷ now (place .exit) ∷ []) (left store «last_known_shingle» «reference_count» location «index_starts» «index_ends» labels «label_attributes» «label_count» «label_starts» «label_ends» attributes «attribute_count» «attribute_starts» «attribute_ends») ≡ exportedCall (now (words .entry)) (now (kept .entry) ∷ now (index .entry) ∷ now («label_index» .entry) ∷ now (joined .entry) ∷ now (place .entry) ∷ []) (addSpec wordsEqual 0 (pointStore (storeIn (now (words .entry))) (entered store «last_known_shingle» «reference_count» location «index_starts» «index_ends» labels «label_attributes» «label_count» «label_starts» «label_ends» attributes «attribute_count» «attribute_starts» «attribute_ends»)) (now (point .entry)) label) ⌝ }
+    ensures { λ r. ⌜ exported r (now (words .exit)) (now (kept .exit) ∷ now (index .exit) ∷ now («label_index» .exit) ∷ now (joined .exit) ∷ now (place .exit) ∷ now («free_indices» .exit) ∷ []) (left store «last_known_shingle» «reference_count» location «index_starts» «index_ends» labels «label_attributes» «label_count» «label_starts» «label_ends» attributes «attribute_count» «attribute_starts» «attribute_ends») ≡ exportedCall (now (words .entry)) (now (kept .entry) ∷ now (index .entry) ∷ now («label_index» .entry) ∷ now (joined .entry) ∷ now (place .entry) ∷ now («free_indices» .entry) ∷ []) (addSpec wordsEqual 0 (pointStore (storeIn (now (words .entry))) (entered store «last_known_shingle» «reference_count» location «index_starts» «index_ends» labels «label_attributes» «label_count» «label_starts» «label_ends» attributes «attribute_count» «attribute_starts» «attribute_ends»)) (now (point .entry)) label) ⌝ }
 {
     let s = store_in(words);
     let result = store_add::add(
@@ -66,7 +67,15 @@ pub extern "C" fn ps_add(
     let after = result.store;
     let answer = result.answer;
     store_out(words, after);
-    added_out(answer, kept, index, label_index, joined, place)
+    added_out(
+        answer,
+        kept,
+        index,
+        label_index,
+        joined,
+        place,
+        free_indices,
+    )
 }
 
 #[no_mangle]

@@ -122,7 +122,7 @@ module _ {E : Type 0} where
 -- ---- accepted answers
 
 abbrev pub isAccepted : Answer → Bool
-isAccepted (kept i l laid) = true
+isAccepted (kept i l laid left) = true
 isAccepted waiting = true
 isAccepted done = false
 isAccepted (is n) = false
@@ -131,7 +131,7 @@ isAccepted (refused n) = false
 isAccepted (refusedAfter n k) = false
 
 pub tallied-if : {E : Type 0} (ks : List ℕ) (xs : List E) (ts : List ℕ) (a : Answer) → length ks ≡ length xs → cond (isAccepted a) (talliedKinds ks ts) ts ≡ talliedWith (ofKinds ks xs) a ts
-tallied-if ks xs ts (kept i l laid) h = sym (tallied-kinds ks xs ts h)
+tallied-if ks xs ts (kept i l laid left) h = sym (tallied-kinds ks xs ts h)
 tallied-if ks xs ts waiting h = sym (tallied-kinds ks xs ts h)
 tallied-if ks xs ts done h = refl
 tallied-if ks xs ts (is n) h = refl

@@ -95,7 +95,7 @@ module _ {E : Type 0} (eq : E → E → Bool) (zeroElement : E) (p : PointProbes
           omega (arith, most, below, open-yet)
         where
           unfinished : (x : Answer) → Leaves (storeOf p) point x q → isAccepted x ≡ true → p .header .store .«next_sequence_index» ≡ 4294967295 → ⊥
-          unfinished (kept i l laid) m y = m .unfinished
+          unfinished (kept i l laid left) m y = m .unfinished
           unfinished waiting m y = m .unfinished
           unfinished done m y = absurd (let z : _≡_ {A = ℕ} 0 1 = cc in omega arith)
           unfinished (is n) m y = absurd (let z : _≡_ {A = ℕ} 0 1 = cc in omega arith)

@@ -9,6 +9,7 @@ ghost use Rattle.probes_definitions.specs.Memory.{pointProbes, lastFloats};
 ghost use Rattle.probes_definitions.specs.Readings.{filled, ofFloats, ofKinds};
 ghost use Rattle.probes_definitions.specs.Setting.{setAdded, setKindsSpec, setSpec};
 ghost use Rattle.probes_definitions.specs.WellFormed.{probesWellFormed};
+ghost use Rattle.store_check.specs.Figures.{FiguresOf};
 ghost use Rattle.store_definitions.specs.Adding.{addSpec};
 ghost use Rattle.store_definitions.specs.Answers.{addedMeans};
 ghost use Rattle.store_definitions.specs.Lent.{entered, held, left};
@@ -25,6 +26,7 @@ use probes_definitions::Probes;
 use probes_definitions::ProbesSetResult;
 use probes_definitions::Reading;
 use store_add::add_unchecked;
+use store_check::Figures;
 use store_definitions::Added;
 use terms::FloatBits;
 use terms::Refusal;
@@ -50,8 +52,9 @@ fn set_filled(
     kinds: &[u8],
     words: &[FloatBits],
     label: usize,
+    figures: Figures,
 ) -> ProbesSetResult
-    requires { ⌜ (probesWellFormed (pointProbes p (held store «last_known_shingle» «reference_count» location «index_starts» «index_ends» labels «label_attributes» «label_count» «label_starts» «label_ends» attributes «attribute_count» «attribute_starts» «attribute_ends»)) ≡ true) × ((length (now kinds) ≡ 8) × (length (now words) ≡ 8)) ⌝ }
+    requires { ⌜ (probesWellFormed (pointProbes p (held store «last_known_shingle» «reference_count» location «index_starts» «index_ends» labels «label_attributes» «label_count» «label_starts» «label_ends» attributes «attribute_count» «attribute_starts» «attribute_ends»)) ≡ true) × ((length (now kinds) ≡ 8) × ((length (now words) ≡ 8) × FiguresOf figures (pointStore (p .store) (held store «last_known_shingle» «reference_count» location «index_starts» «index_ends» labels «label_attributes» «label_count» «label_starts» «label_ends» attributes «attribute_count» «attribute_starts» «attribute_ends»)))) ⌝ }
     ensures { λ r. ⌜ probesOutcome (addedMeans (r .answer)) (pointProbes (r .probes) (left store «last_known_shingle» «reference_count» location «index_starts» «index_ends» labels «label_attributes» «label_count» «label_starts» «label_ends» attributes «attribute_count» «attribute_starts» «attribute_ends»)) ≡ setAdded (pointProbes p (entered store «last_known_shingle» «reference_count» location «index_starts» «index_ends» labels «label_attributes» «label_count» «label_starts» «label_ends» attributes «attribute_count» «attribute_starts» «attribute_ends»)) (ofKinds (now (kinds .entry)) (now (words .entry))) (addSpec wordsEqual 0 (pointStore (p .store) (entered store «last_known_shingle» «reference_count» location «index_starts» «index_ends» labels «label_attributes» «label_count» «label_starts» «label_ends» attributes «attribute_count» «attribute_starts» «attribute_ends»)) (filled (ofKinds (now (kinds .entry)) (now (words .entry))) (lastFloats (pointStore (p .store) (entered store «last_known_shingle» «reference_count» location «index_starts» «index_ends» labels «label_attributes» «label_count» «label_starts» «label_ends» attributes «attribute_count» «attribute_starts» «attribute_ends»)))) label) ⌝ }
 {
     let s = p.store;
@@ -75,6 +78,7 @@ fn set_filled(
         attribute_ends,
         &filled,
         label,
+        figures,
     );
     let store = added.store;
     let answer = added.answer;
@@ -109,7 +113,7 @@ pub fn set_words(
 ) -> ProbesSetResult
     ensures { λ r. ⌜ probesOutcome (addedMeans (r .answer)) (pointProbes (r .probes) (left store «last_known_shingle» «reference_count» location «index_starts» «index_ends» labels «label_attributes» «label_count» «label_starts» «label_ends» attributes «attribute_count» «attribute_starts» «attribute_ends»)) ≡ setKindsSpec wordsEqual 0 (pointProbes p (entered store «last_known_shingle» «reference_count» location «index_starts» «index_ends» labels «label_attributes» «label_count» «label_starts» «label_ends» attributes «attribute_count» «attribute_starts» «attribute_ends»)) (now (kinds .entry)) (now (words .entry)) label ⌝ }
 {
-    if !check_probes(
+    let checked = check_probes(
         p,
         store,
         last_known_shingle,
@@ -126,13 +130,16 @@ pub fn set_words(
         attribute_count,
         attribute_starts,
         attribute_ends,
-    ) {
+    );
+    let ok = checked.ok;
+    if !ok {
         return ProbesSetResult {
             probes: p,
             answer: Added::Refused(Refusal::IllFormed),
         };
     }
     let s = p.store;
+    let figures = checked.figures;
     let d = set_decision(s.next_sequence_index, kinds, words.len());
     match d {
         Decision::Refuse(why) => ProbesSetResult {
@@ -159,6 +166,7 @@ pub fn set_words(
             kinds,
             words,
             label,
+            figures,
         ),
     }
 }

@@ -1,11 +1,15 @@
 // The check of a product.
+ghost use mathlib.Core.Bool.{true};
 ghost use mathlib.Core.Path.{_≡_};
 ghost use Prim.Native.Nat.{_<_};
 ghost use lib.ListN.{length};
 ghost use Rattle.probes_definitions.specs.Memory.{pointProbes};
 ghost use Rattle.probes_definitions.specs.WellFormed.{eightProbes, talliesWithin, probesWellFormed};
+ghost use Rattle.store_check.specs.Figures.{FiguresOf};
 ghost use Rattle.store_definitions.specs.Lent.{entered};
+ghost use Rattle.store_definitions.specs.Memory.{pointStore};
 use probes_definitions::Probes;
+use store_check::Figures;
 use store_check::check;
 use terms::FloatBits;
 
@@ -30,6 +34,12 @@ fn tallies_within(sequence: u32, tallies: [u32; 8]) -> bool
     within
 }
 
+// What the check finds: whether the product is well-formed, and then what was counted of its store.
+pub struct ProbesChecked {
+    pub ok: bool,
+    pub figures: Figures,
+}
+
 pub fn check_probes(
     p: Probes,
     store: &[FloatBits],
@@ -47,8 +57,8 @@ pub fn check_probes(
     attribute_count: &[u32],
     attribute_starts: &[u16],
     attribute_ends: &[u16],
-) -> bool
-    ensures { λ r. ⌜ r ≡ probesWellFormed (pointProbes p (entered store «last_known_shingle» «reference_count» location «index_starts» «index_ends» labels «label_attributes» «label_count» «label_starts» «label_ends» attributes «attribute_count» «attribute_starts» «attribute_ends»)) ⌝ }
+) -> ProbesChecked
+    ensures { λ r. ⌜ (r .ok ≡ probesWellFormed (pointProbes p (entered store «last_known_shingle» «reference_count» location «index_starts» «index_ends» labels «label_attributes» «label_count» «label_starts» «label_ends» attributes «attribute_count» «attribute_starts» «attribute_ends»))) × ((r .ok ≡ true → FiguresOf (r .figures) (pointStore (p .store) (entered store «last_known_shingle» «reference_count» location «index_starts» «index_ends» labels «label_attributes» «label_count» «label_starts» «label_ends» attributes «attribute_count» «attribute_starts» «attribute_ends»)))) ⌝ }
 {
     let s = p.store;
     let checked = check(
@@ -70,11 +80,13 @@ pub fn check_probes(
         attribute_ends,
     );
     let well = checked.ok;
+    let figures = checked.figures;
     if well {
         if eight_probes(s.dimensions, s.shingle_size, s.internal_shingling) {
             let tallies = p.tallies;
-            return tallies_within(s.next_sequence_index, tallies);
+            let ok = tallies_within(s.next_sequence_index, tallies);
+            return ProbesChecked { ok, figures };
         }
     }
-    false
+    ProbesChecked { ok: false, figures }
 }

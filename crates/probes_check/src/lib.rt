@@ -3,6 +3,7 @@
 mod check;
 mod read;
 
+pub use check::ProbesChecked;
 pub use check::check_probes;
 pub use check::eight_probes;
 pub use read::tallies;

@@ -44,7 +44,7 @@ pub fn tallies(
 ) -> Done
     ensures { λ r. ⌜ output (doneMeans r) (now (out .exit)) ≡ talliesSpec (pointProbes p (entered store «last_known_shingle» «reference_count» location «index_starts» «index_ends» labels «label_attributes» «label_count» «label_starts» «label_ends» attributes «attribute_count» «attribute_starts» «attribute_ends»)) (now (out .entry)) ⌝ }
 {
-    if check_probes(
+    let checked = check_probes(
         p,
         store,
         last_known_shingle,
@@ -61,7 +61,9 @@ pub fn tallies(
         attribute_count,
         attribute_starts,
         attribute_ends,
-    ) {
+    );
+    let ok = checked.ok;
+    if ok {
         if out.len() == 8 {
             let counted = p.tallies;
             copy_tallies(counted, out);

@@ -15,7 +15,7 @@ use Rattle.class_table.specs.Reasons.{reasonClasses}
 use Rattle.class_table.specs.Table.{someBelow, largestBelow, tableAllowed}
 use Rattle.class_table.specs.Text.{numbered, tableText, classesOf, tableRead}
 use Rattle.interval_store_manager.specs.Calls.{pushed, changed, taken, released}
-use Rattle.interval_store_manager.specs.Intervals.{inside, holders, isFree, inBounds, noneShared}
+use Rattle.interval_store_manager.specs.Intervals.{inside, holders, isFree, freeNumber, inBounds, noneShared}
 use Rattle.interval_store_manager.specs.WellFormed.{capacityAllowed, lentEnough as stackLent, wellFormed as managerWellFormed}
 use Rattle.placement.specs.Alignment.{wrappingSub, wrappingAdd, alignment, zerosBefore}
 use Rattle.placement.specs.Compaction.{holds, liveBelow, moved, grownBlocks, blocks, blockMoves, copiedDown, settled, blockDown, blocksDown, writtenByBlocks, compacted}
@@ -35,7 +35,7 @@ use Rattle.store_definitions.specs.Parts.{withWindow}
 use Rattle.store_definitions.specs.Opening.{openDecided, openedMemory, opened}
 use Rattle.store_definitions.specs.Counting.{decTest, placeAfterDec, decremented, decSpec}
 use Rattle.store_definitions.specs.Rows.{compactedRows, grownRows, short, roomMade, copyOf}
-use Rattle.store_definitions.specs.Adding.{pointLength, waits, tableFull, entriesFilled, addDecided, windowAfter, sequenced, rowOf, labelGiven, labelled, tableGrown, placed, joins, overflows, laidRows, laidHow, keptAfter, indexGiven, keeps, addSpec}
+use Rattle.store_definitions.specs.Adding.{pointLength, waits, tableFull, entriesFilled, addDecided, windowAfter, sequenced, rowOf, labelGiven, labelled, tableGrown, placed, joins, overflows, laidRows, laidHow, keptAfter, indexGiven, freeLeft, keeps, addSpec}
 use Rattle.store_definitions.specs.Bounds.{boundsHold, startAllowed, rotationAllowed, labelsLent, lentEnough}
 use Rattle.store_definitions.specs.Decisions.{formDecided, live, touchDecided}
 use Rattle.store_definitions.specs.WellFormed.{tableLengthWell, storeLengthWell, freeStartWell, emptyUncounted, placesDistinct, placesEnd, sequenceWell, wellFormed}
@@ -123,7 +123,7 @@ run i (c ∷ cs) p answers = let o = called c p in run i cs (o .after) (answers 
 
 -- a refused opening ends the case
 opening : Answer → ℕ → List Call → PointProbes ℕ → Said
-opening (kept i l laid) n cs p = said [] [] [] []
+opening (kept i l laid left) n cs p = said [] [] [] []
 opening waiting n cs p = said [] [] [] []
 opening done n cs p = run n cs p []
 opening (is k) n cs p = said [] [] [] []
@@ -172,15 +172,16 @@ zeros = eight 0
 
 cases : List Case
 cases =
-    -- an Estimated is stored and tallied, in a waiting set too; an Absent repeats its own probe's last stored float
+    -- an Estimated is stored and tallied, in a waiting set too; an Absent repeats its own probe's last stored float. The last number of a kept
+    -- answer is the table length, here 2, less the live points
     record {
       found = ran windowed (set (first (estimated 5) 1) 0 ∷ set (last (estimated 6) 2) 0 ∷ set (first absent 3) 0 ∷ []) 1;
-      expected = said (waiting ∷ kept 0 none (Whole 0) ∷ kept 1 none (Joined 1) ∷ []) (1 ∷ 0 ∷ 0 ∷ 0 ∷ 0 ∷ 0 ∷ 0 ∷ 1 ∷ []) (2 ∷ replicate 7 3) (replicate 7 2 ++ 6 ∷ 2 ∷ replicate 7 3);
+      expected = said (waiting ∷ kept 0 none (Whole 0) 1 ∷ kept 1 none (Joined 1) 0 ∷ []) (1 ∷ 0 ∷ 0 ∷ 0 ∷ 0 ∷ 0 ∷ 0 ∷ 1 ∷ []) (2 ∷ replicate 7 3) (replicate 7 2 ++ 6 ∷ 2 ∷ replicate 7 3);
     }
     -- an Absent repeats the last stored float, not the first, and an absent one after an absent one too
     ∷ record {
       found = ran windowed (set (first (measured 5) 1) 0 ∷ set (first (estimated 6) 2) 0 ∷ set (first absent 3) 0 ∷ set (last absent 4) 0 ∷ []) 1;
-      expected = said (waiting ∷ kept 0 none (Whole 0) ∷ kept 1 none (Joined 1) ∷ refused 9 ∷ []) (1 ∷ replicate 7 0) (6 ∷ replicate 7 3) (6 ∷ replicate 7 2 ++ 6 ∷ replicate 7 3);
+      expected = said (waiting ∷ kept 0 none (Whole 0) 1 ∷ kept 1 none (Joined 1) 0 ∷ refused 9 ∷ []) (1 ∷ replicate 7 0) (6 ∷ replicate 7 3) (6 ∷ replicate 7 2 ++ 6 ∷ replicate 7 3);
     }
     -- before the first set an Absent is refused with 16, and nothing is tallied or stored
     ∷ record {
@@ -195,31 +196,31 @@ cases =
     -- 8 and 9 leave tallies and last floats
     ∷ record {
       found = ran plain (set (eight (estimated 1)) 0 ∷ set (eight (estimated 2)) 0 ∷ set (eight (estimated 3)) 0 ∷ []) 1;
-      expected = said (kept 0 none (Whole 0) ∷ kept 1 none (Whole 1) ∷ refused 9 ∷ []) (eight 2) (eight 2) (eight 2);
+      expected = said (kept 0 none (Whole 0) 1 ∷ kept 1 none (Whole 1) 0 ∷ refused 9 ∷ []) (eight 2) (eight 2) (eight 2);
     }
     ∷ record {
       found = ran (shape 8 1 1 true false true) (set (eight (estimated 1)) 7 ∷ set (eight (estimated 2)) 7 ∷ []) 0;
-      expected = said (kept 0 0 (Whole 0) ∷ refused 8 ∷ []) (eight 1) (eight 1) (eight 1);
+      expected = said (kept 0 0 (Whole 0) 0 ∷ refused 8 ∷ []) (eight 1) (eight 1) (eight 1);
     }
     -- so does 10
     ∷ record {
       found = ran rotating (set (eight (measured 1)) 0 ∷ set (eight (measured 2)) 0 ∷ set (eight (measured 3)) 0 ∷ dec 0 none ∷ set (eight (measured 4)) 0 ∷ dec 0 none ∷ set (eight (estimated 5)) 0 ∷ []) 1;
-      expected = said (waiting ∷ kept 0 none (Whole 0) ∷ kept 1 none (Joined 1) ∷ done ∷ kept 0 none (Joined 2) ∷ done ∷ refused 10 ∷ []) zeros (eight 4) (eight 3 ++ eight 2);
+      expected = said (waiting ∷ kept 0 none (Whole 0) 1 ∷ kept 1 none (Joined 1) 0 ∷ done ∷ kept 0 none (Joined 2) 0 ∷ done ∷ refused 10 ∷ []) zeros (eight 4) (eight 3 ++ eight 2);
     }
     -- 12, once the sequence is at its limit; a tally may be as high
     ∷ record {
       found = ran plain (atSequence 4294967294 ∷ set (eight (estimated 1)) 0 ∷ set (first absent 2) 0 ∷ []) 0;
-      expected = said (done ∷ kept 0 none (Whole 0) ∷ refused 12 ∷ []) (eight 1) (eight 1) (eight 1);
+      expected = said (done ∷ kept 0 none (Whole 0) 1 ∷ refused 12 ∷ []) (eight 1) (eight 1) (eight 1);
     }
     -- an add on the store inside raises the sequence: an Absent then repeats its floats
     ∷ record {
       found = ran plain (add (1 ∷ 2 ∷ 3 ∷ 4 ∷ 5 ∷ 6 ∷ 7 ∷ 8 ∷ []) 0 ∷ set (eight absent) 0 ∷ []) 1;
-      expected = said (kept 0 none (Whole 0) ∷ kept 1 none (Whole 1) ∷ []) zeros (1 ∷ 2 ∷ 3 ∷ 4 ∷ 5 ∷ 6 ∷ 7 ∷ 8 ∷ []) (1 ∷ 2 ∷ 3 ∷ 4 ∷ 5 ∷ 6 ∷ 7 ∷ 8 ∷ []);
+      expected = said (kept 0 none (Whole 0) 1 ∷ kept 1 none (Whole 1) 0 ∷ []) zeros (1 ∷ 2 ∷ 3 ∷ 4 ∷ 5 ∷ 6 ∷ 7 ∷ 8 ∷ []) (1 ∷ 2 ∷ 3 ∷ 4 ∷ 5 ∷ 6 ∷ 7 ∷ 8 ∷ []);
     }
     -- kinds: 3, then 11, then 16; an Absent's element is not looked at
     ∷ record {
       found = ran plain (setKinds (replicate 7 0) (eight 1) 0 ∷ setKinds (3 ∷ replicate 6 0) (eight 1) 0 ∷ setKinds (eight 3) (replicate 9 1) 0 ∷ setKinds (2 ∷ replicate 6 0 ++ 3 ∷ []) (eight 1) 0 ∷ setKinds (2 ∷ replicate 7 0) (eight 1) 0 ∷ setKinds (eight 1) (eight 1) 0 ∷ setKinds (2 ∷ 1 ∷ replicate 6 0) (eight 9) 0 ∷ []) 1;
-      expected = said (refused 3 ∷ refused 3 ∷ refused 3 ∷ refused 11 ∷ refused 16 ∷ kept 0 none (Whole 0) ∷ kept 1 none (Whole 1) ∷ []) (1 ∷ 2 ∷ replicate 6 1) (1 ∷ replicate 7 9) (1 ∷ replicate 7 9);
+      expected = said (refused 3 ∷ refused 3 ∷ refused 3 ∷ refused 11 ∷ refused 16 ∷ kept 0 none (Whole 0) 1 ∷ kept 1 none (Whole 1) 0 ∷ []) (1 ∷ 2 ∷ replicate 6 1) (1 ∷ replicate 7 9) (1 ∷ replicate 7 9);
     }
     -- openings: another base, no internal shingling, outside the bounds; and memory too short, after these
     ∷ record { found = ran (shape 8 2 2 true false false) [] 0; expected = said (refused 2 ∷ []) [] [] [] }
@@ -233,8 +234,8 @@ cases =
 
 -- an answer as numbers: which kind it is, and what it holds
 unfoldable pub numbers : Answer → List ℕ
-numbers (kept i l (Whole place)) = 0 ∷ i ∷ l ∷ 0 ∷ place ∷ []
-numbers (kept i l (Joined place)) = 0 ∷ i ∷ l ∷ 1 ∷ place ∷ []
+numbers (kept i l (Whole place) left) = 0 ∷ i ∷ l ∷ 0 ∷ place ∷ left ∷ []
+numbers (kept i l (Joined place) left) = 0 ∷ i ∷ l ∷ 1 ∷ place ∷ left ∷ []
 numbers waiting = 1 ∷ []
 numbers done = 2 ∷ []
 numbers (is n) = 3 ∷ n ∷ []
@@ -256,7 +257,7 @@ stand (c ∷ cs) = agree (c .found) (c .expected) && stand cs
 
 -- every case gives what is said of it
 probe-cases : stand cases ≡ true
-unfolding said run opening started ran first last plain windowed labelled-sets rotating zeros cases agree stand shape rubbish withInside sequenceMade called eight numbers same lastFloats anyAbsent filled tallied ofKinds anyAbove eightProbes talliesWithin probesWellFormed probesOpenDecided probesOpenSpec noEarlier setDecided kindsDecided setChecked setSpec setKindsSpec everyBelow allEqual pushed changed taken released inside holders isFree inBounds noneShared capacityAllowed stackLent managerWellFormed wrappingSub wrappingAdd alignment zerosBefore holds liveBelow moved grownBlocks blocks blockMoves copiedDown settled blockDown blocksDown writtenByBlocks compacted turn turned copied grown writtenCount laidAs laidElements laidFree placeOf overlaps rowToLay movedWindow managed freeUncounted countsFit indexTaken lowered codeDecided roomDecided decDecided openDecided openedMemory opened decTest placeAfterDec decremented decSpec compactedRows grownRows short roomMade copyOf pointLength waits tableFull entriesFilled addDecided windowAfter sequenced rowOf labelGiven labelled tableGrown placed joins overflows laidRows laidHow keptAfter indexGiven keeps addSpec boundsHold startAllowed rotationAllowed lentEnough formDecided live touchDecided tableLengthWell storeLengthWell freeStartWell emptyUncounted placesDistinct placesEnd sequenceWell wellFormed sumBelow countBelow firstBelow raised inUse holdsClass classSlot slotTaken labelTaken labelLowered slotSum differ labelTablesLent codesAllowed slotsHoldClasses classesDistinct slotsSummed labelsWell labelsOpened labelsLent reasonClasses tableRead tableText numbered classesOf lines line fields field columns column valueFrom digit tableAllowed someBelow largestBelow
+unfolding said run opening started ran first last plain windowed labelled-sets rotating zeros cases agree stand shape rubbish withInside sequenceMade called eight numbers same lastFloats anyAbsent filled tallied ofKinds anyAbove eightProbes talliesWithin probesWellFormed probesOpenDecided probesOpenSpec noEarlier setDecided kindsDecided setChecked setSpec setKindsSpec everyBelow allEqual pushed changed taken released inside holders isFree freeNumber inBounds noneShared capacityAllowed stackLent managerWellFormed wrappingSub wrappingAdd alignment zerosBefore holds liveBelow moved grownBlocks blocks blockMoves copiedDown settled blockDown blocksDown writtenByBlocks compacted turn turned copied grown writtenCount laidAs laidElements laidFree placeOf overlaps rowToLay movedWindow managed freeUncounted countsFit indexTaken lowered codeDecided roomDecided decDecided openDecided openedMemory opened decTest placeAfterDec decremented decSpec compactedRows grownRows short roomMade copyOf pointLength waits tableFull entriesFilled addDecided windowAfter sequenced rowOf labelGiven labelled tableGrown placed joins overflows laidRows laidHow keptAfter indexGiven freeLeft keeps addSpec boundsHold startAllowed rotationAllowed lentEnough formDecided live touchDecided tableLengthWell storeLengthWell freeStartWell emptyUncounted placesDistinct placesEnd sequenceWell wellFormed sumBelow countBelow firstBelow raised inUse holdsClass classSlot slotTaken labelTaken labelLowered slotSum differ labelTablesLent codesAllowed slotsHoldClasses classesDistinct slotsSummed labelsWell labelsOpened labelsLent reasonClasses tableRead tableText numbered classesOf lines line fields field columns column valueFrom digit tableAllowed someBelow largestBelow
 probe-cases = refl
 
 -- the tallies after some sets, in a slice of n entries: one that is not as long as eight gets 3 and is left as it was
@@ -269,5 +270,5 @@ read n cs = readings n cs (probesOpenSpec 0 plain (tableText reasonClasses) (rub
 
 tally-readings : (same (read 8 (set (first (estimated 5) 1) 0 ∷ [])) (2 ∷ 1 ∷ replicate 7 0)
     && (same (read 7 []) (5 ∷ 3 ∷ replicate 7 77) && same (read 9 []) (5 ∷ 3 ∷ replicate 9 77))) ≡ true
-unfolding readings read first plain probesFormDecided talliesSpec shape rubbish withInside sequenceMade called eight numbers same lastFloats anyAbsent filled tallied ofKinds anyAbove eightProbes talliesWithin probesWellFormed probesOpenDecided probesOpenSpec noEarlier setDecided kindsDecided setChecked setSpec setKindsSpec everyBelow allEqual pushed changed taken released inside holders isFree inBounds noneShared capacityAllowed stackLent managerWellFormed wrappingSub wrappingAdd alignment zerosBefore holds liveBelow moved grownBlocks blocks blockMoves copiedDown settled blockDown blocksDown writtenByBlocks compacted turn turned copied grown writtenCount laidAs laidElements laidFree placeOf overlaps rowToLay movedWindow managed freeUncounted countsFit indexTaken lowered codeDecided roomDecided decDecided openDecided openedMemory opened decTest placeAfterDec decremented decSpec compactedRows grownRows short roomMade copyOf pointLength waits tableFull entriesFilled addDecided windowAfter sequenced rowOf labelGiven labelled tableGrown placed joins overflows laidRows laidHow keptAfter indexGiven keeps addSpec boundsHold startAllowed rotationAllowed lentEnough formDecided live touchDecided tableLengthWell storeLengthWell freeStartWell emptyUncounted placesDistinct placesEnd sequenceWell wellFormed sumBelow countBelow firstBelow raised inUse holdsClass classSlot slotTaken labelTaken labelLowered slotSum differ labelTablesLent codesAllowed slotsHoldClasses classesDistinct slotsSummed labelsWell labelsOpened labelsLent reasonClasses tableRead tableText numbered classesOf lines line fields field columns column valueFrom digit tableAllowed someBelow largestBelow
+unfolding readings read first plain probesFormDecided talliesSpec shape rubbish withInside sequenceMade called eight numbers same lastFloats anyAbsent filled tallied ofKinds anyAbove eightProbes talliesWithin probesWellFormed probesOpenDecided probesOpenSpec noEarlier setDecided kindsDecided setChecked setSpec setKindsSpec everyBelow allEqual pushed changed taken released inside holders isFree freeNumber inBounds noneShared capacityAllowed stackLent managerWellFormed wrappingSub wrappingAdd alignment zerosBefore holds liveBelow moved grownBlocks blocks blockMoves copiedDown settled blockDown blocksDown writtenByBlocks compacted turn turned copied grown writtenCount laidAs laidElements laidFree placeOf overlaps rowToLay movedWindow managed freeUncounted countsFit indexTaken lowered codeDecided roomDecided decDecided openDecided openedMemory opened decTest placeAfterDec decremented decSpec compactedRows grownRows short roomMade copyOf pointLength waits tableFull entriesFilled addDecided windowAfter sequenced rowOf labelGiven labelled tableGrown placed joins overflows laidRows laidHow keptAfter indexGiven freeLeft keeps addSpec boundsHold startAllowed rotationAllowed lentEnough formDecided live touchDecided tableLengthWell storeLengthWell freeStartWell emptyUncounted placesDistinct placesEnd sequenceWell wellFormed sumBelow countBelow firstBelow raised inUse holdsClass classSlot slotTaken labelTaken labelLowered slotSum differ labelTablesLent codesAllowed slotsHoldClasses classesDistinct slotsSummed labelsWell labelsOpened labelsLent reasonClasses tableRead tableText numbered classesOf lines line fields field columns column valueFrom digit tableAllowed someBelow largestBelow
 tally-readings = refl

@@ -14,7 +14,7 @@ use Rattle.class_table.specs.Reasons.{reasonClasses}
 use Rattle.class_table.specs.Table.{someBelow, largestBelow, tableAllowed}
 use Rattle.class_table.specs.Text.{numbered, tableText, classesOf, tableRead}
 use Rattle.interval_store_manager.specs.Calls.{pushed, changed, taken, released}
-use Rattle.interval_store_manager.specs.Intervals.{inside, holders, isFree, inBounds, noneShared}
+use Rattle.interval_store_manager.specs.Intervals.{inside, holders, isFree, freeNumber, inBounds, noneShared}
 use Rattle.interval_store_manager.specs.WellFormed.{capacityAllowed, lentEnough as stackLent, wellFormed as managerWellFormed}
 use Rattle.placement.specs.Alignment.{wrappingSub, wrappingAdd, alignment, zerosBefore}
 use Rattle.placement.specs.Compaction.{holds, liveBelow, moved, grownBlocks, blocks, blockMoves, copiedDown, settled, blockDown, blocksDown, writtenByBlocks, compacted}
@@ -32,7 +32,7 @@ use Rattle.store_definitions.specs.Answers.{Answer, is}
 use Rattle.store_definitions.specs.Opening.{openDecided, openedMemory, opened, openSpec}
 use Rattle.store_definitions.specs.Counting.{decTest, placeAfterDec, decremented, decSpec}
 use Rattle.store_definitions.specs.Rows.{compactedRows, grownRows, short, roomMade, copyOf}
-use Rattle.store_definitions.specs.Adding.{pointLength, waits, tableFull, entriesFilled, addDecided, windowAfter, sequenced, rowOf, labelGiven, labelled, tableGrown, placed, joins, overflows, laidRows, laidHow, keptAfter, indexGiven, keeps, addSpec}
+use Rattle.store_definitions.specs.Adding.{pointLength, waits, tableFull, entriesFilled, addDecided, windowAfter, sequenced, rowOf, labelGiven, labelled, tableGrown, placed, joins, overflows, laidRows, laidHow, keptAfter, indexGiven, freeLeft, keeps, addSpec}
 use Rattle.store_definitions.specs.Bounds.{boundsHold, startAllowed, rotationAllowed, labelsLent, lentEnough}
 use Rattle.store_definitions.specs.Decisions.{formDecided, live, touchDecided}
 use Rattle.store_definitions.specs.WellFormed.{tableLengthWell, storeLengthWell, freeStartWell, emptyUncounted, placesDistinct, placesEnd, sequenceWell, wellFormed}
@@ -102,5 +102,5 @@ noneOne (p ∷ ps) = not (isOne (called (set (eight (measured 1)) 0) p .answer))
 
 -- the store inside is well-formed, and the product is not
 each-clause : (allOne broken && noneOne whole) ≡ true
-unfolding after product counting around broken whole isOne allOne noneOne probesFormDecided talliesSpec shape rubbish withInside sequenceMade called eight numbers same lastFloats anyAbsent filled tallied ofKinds anyAbove eightProbes talliesWithin probesWellFormed probesOpenDecided probesOpenSpec noEarlier setDecided kindsDecided setChecked setSpec setKindsSpec everyBelow allEqual pushed changed taken released inside holders isFree inBounds noneShared capacityAllowed stackLent managerWellFormed wrappingSub wrappingAdd alignment zerosBefore holds liveBelow moved grownBlocks blocks blockMoves copiedDown settled blockDown blocksDown writtenByBlocks compacted turn turned copied grown writtenCount laidAs laidElements laidFree placeOf overlaps rowToLay movedWindow managed freeUncounted countsFit indexTaken lowered codeDecided roomDecided decDecided openDecided openedMemory opened openSpec decTest placeAfterDec decremented decSpec compactedRows grownRows short roomMade copyOf pointLength waits tableFull entriesFilled addDecided windowAfter sequenced rowOf labelGiven labelled tableGrown placed joins overflows laidRows laidHow keptAfter indexGiven keeps addSpec boundsHold startAllowed rotationAllowed lentEnough formDecided live touchDecided tableLengthWell storeLengthWell freeStartWell emptyUncounted placesDistinct placesEnd sequenceWell wellFormed sumBelow countBelow firstBelow raised inUse holdsClass classSlot slotTaken labelTaken labelLowered slotSum differ labelTablesLent codesAllowed slotsHoldClasses classesDistinct slotsSummed labelsWell labelsOpened labelsLent reasonClasses tableRead tableText numbered classesOf lines line fields field columns column valueFrom digit tableAllowed someBelow largestBelow
+unfolding after product counting around broken whole isOne allOne noneOne probesFormDecided talliesSpec shape rubbish withInside sequenceMade called eight numbers same lastFloats anyAbsent filled tallied ofKinds anyAbove eightProbes talliesWithin probesWellFormed probesOpenDecided probesOpenSpec noEarlier setDecided kindsDecided setChecked setSpec setKindsSpec everyBelow allEqual pushed changed taken released inside holders isFree freeNumber inBounds noneShared capacityAllowed stackLent managerWellFormed wrappingSub wrappingAdd alignment zerosBefore holds liveBelow moved grownBlocks blocks blockMoves copiedDown settled blockDown blocksDown writtenByBlocks compacted turn turned copied grown writtenCount laidAs laidElements laidFree placeOf overlaps rowToLay movedWindow managed freeUncounted countsFit indexTaken lowered codeDecided roomDecided decDecided openDecided openedMemory opened openSpec decTest placeAfterDec decremented decSpec compactedRows grownRows short roomMade copyOf pointLength waits tableFull entriesFilled addDecided windowAfter sequenced rowOf labelGiven labelled tableGrown placed joins overflows laidRows laidHow keptAfter indexGiven freeLeft keeps addSpec boundsHold startAllowed rotationAllowed lentEnough formDecided live touchDecided tableLengthWell storeLengthWell freeStartWell emptyUncounted placesDistinct placesEnd sequenceWell wellFormed sumBelow countBelow firstBelow raised inUse holdsClass classSlot slotTaken labelTaken labelLowered slotSum differ labelTablesLent codesAllowed slotsHoldClasses classesDistinct slotsSummed labelsWell labelsOpened labelsLent reasonClasses tableRead tableText numbered classesOf lines line fields field columns column valueFrom digit tableAllowed someBelow largestBelow
 each-clause = refl

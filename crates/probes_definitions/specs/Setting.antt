@@ -16,7 +16,7 @@ use Rattle.probes_definitions.specs.WellFormed.{probesWellFormed}
 module _ {E : Type 0} where
   -- the tallies after a set with this answer: an accepted one, kept or waiting, is tallied
   abbrev pub talliedWith : List (ProbeReading E) → Answer → List ℕ → List ℕ
-  talliedWith set (kept i l laid) ts = tallied set ts
+  talliedWith set (kept i l laid left) ts = tallied set ts
   talliedWith set waiting ts = tallied set ts
   talliedWith set done ts = ts
   talliedWith set (is n) ts = ts

@@ -51,7 +51,7 @@ module _ {E : Type 0} (p : PointProbes E) (w : ProbesSound p) (set : List (Probe
 
   -- whatever the store's answer
   pub added-sound : (a : Answer) → Leaves (storeOf p) point a q → ProbesSound (setAdded p set (outcome a q) .after)
-  added-sound (kept i l laid) m = moved-sound (kept i l laid) m refl
+  added-sound (kept i l laid left) m = moved-sound (kept i l laid left) m refl
   added-sound waiting m = moved-sound waiting m refl
   added-sound done m = unmoved-sound done m refl
   added-sound (is n) m = unmoved-sound (is n) m refl

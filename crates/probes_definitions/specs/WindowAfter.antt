@@ -16,7 +16,7 @@ use Rattle.store_definitions.specs.Memory.{PointStore}
 use Rattle.store_definitions.specs.Answers.{Answer, kept, waiting, done, is, says, refused, refusedAfter, outcome}
 use Rattle.store_definitions.specs.Parts.{baseOf, labelHalf, Rows, rowsOf, withRows, withPoints, withLabels}
 use Rattle.store_definitions.specs.Rows.{roomMade}
-use Rattle.store_definitions.specs.Adding.{pointLength, AddDecided, keep, wait, refuseAdd, addDecided, windowAfter, sequenced, rowOf, labelGiven, labelled, tableGrown, placed, overflows, laidRows, laidHow, keptAfter, indexGiven, keeps, addCarriedOut, addSpec}
+use Rattle.store_definitions.specs.Adding.{pointLength, AddDecided, keep, wait, refuseAdd, addDecided, windowAfter, sequenced, rowOf, labelGiven, labelled, tableGrown, placed, overflows, laidRows, laidHow, keptAfter, indexGiven, freeLeft, keeps, addCarriedOut, addSpec}
 use Rattle.store_laws.specs.Cases.{by-cases}
 use Rattle.store_laws.specs.BoundsLaws.{base-divides}
 use Rattle.store_laws.specs.Sound.{Sound}
@@ -45,7 +45,7 @@ module _ {E : Type 0} where
     pub window : q .memory .lastKnownShingle ≡ windowAfter p point
 
   abbrev pub Leaves : PointStore E → List E → Answer → PointStore E → Type 0
-  Leaves p point (kept i l laid) q = Moved p point q
+  Leaves p point (kept i l laid left) q = Moved p point q
   Leaves p point waiting q = Moved p point q
   Leaves p point done q = Unmoved p q
   Leaves p point (is n) q = Unmoved p q
@@ -134,7 +134,7 @@ module _ {E : Type 0} (eq : E → E → Bool) (zeroElement : E) (p : PointStore 
           let r : Rows E = roomMade zeroElement (p .header) (rowsOf p) in
           let row : List E = rowOf p point in
           by-cases (λ o. Leaves p point (o .answer) (o .after)) (overflows eq (p .header) r row) (outcome (refused 10) (withRows r p))
-          (outcome (kept (indexGiven p) (labelGiven p) (laidHow eq (p .header) r row)) (keptAfter eq r row p point code))
+          (outcome (kept (indexGiven p) (labelGiven p) (laidHow eq (p .header) r row) (freeLeft p)) (keptAfter eq r row p point code))
           (λ full. rows-unmoved p r)
           (λ fits. kept-moved p point code (keeps-on p point code e .accepted) eq r row)
       split wait e = waiting-moved p point code (waits-on p point code e)

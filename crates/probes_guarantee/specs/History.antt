@@ -14,7 +14,7 @@ use Rattle.probes_guarantee.specs.Run.{ProbeSet, probesAnswerTo}
 module _ {E : Type 0} where
   -- a probe's Estimated readings with one set more, if it was accepted: kept or waiting
   abbrev pub estimatesWith : List (ProbeReading E) → Answer → ℕ → ℕ → ℕ
-  estimatesWith set (kept i l laid) k n = n + estimates (getD set k absent)
+  estimatesWith set (kept i l laid left) k n = n + estimates (getD set k absent)
   estimatesWith set waiting k n = n + estimates (getD set k absent)
   estimatesWith set done k n = n
   estimatesWith set (is m) k n = n

@@ -97,7 +97,7 @@ module _ {E : Type 0} (eq : E → E → Bool) (zeroElement : E) (s : Shape) (sta
     -- whatever the store's answer
     pub set-follows : (a : Answer) → past then ≡ recordedWith a → Leaves (storeOf p) point a q → FollowsWith a
     unfolding recorded changedBy
-    set-follows (kept i l laid) hist m = taken (kept i l laid) hist m (added-sound p (f .probes-well) set point q well (kept i l laid) m) refl refl
+    set-follows (kept i l laid free) hist m = taken (kept i l laid free) hist m (added-sound p (f .probes-well) set point q well (kept i l laid free) m) refl refl
     set-follows waiting hist m = taken waiting hist m (added-sound p (f .probes-well) set point q well waiting m) refl refl
     set-follows done hist m = left done hist m (added-sound p (f .probes-well) set point q well done m) refl refl
     set-follows (is n) hist m = left (is n) hist m (added-sound p (f .probes-well) set point q well (is n) m) refl refl

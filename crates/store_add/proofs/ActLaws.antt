@@ -20,7 +20,7 @@ use Rattle.placement.specs.Growth.{grown, grown-within}
 use Rattle.placement.specs.Laying.{writtenCount, laidAs, laidElements, laidFree, placeOf}
 use Rattle.placement.specs.Overlap.{overlaps}
 use Rattle.placement_rows.specs.Layable.{Layable, overlaps-shared}
-use Rattle.labels.specs.Counted.{Counted, counted, nextIndex}
+use Rattle.labels.specs.Counted.{Counted, counted, freeIndices, nextIndex, liveNumber}
 use Rattle.labels.specs.CountedLaws.{WellCounted}
 use Rattle.labels.specs.Decisions.{none, codeDecided, roomDecided}
 use Rattle.labels.specs.Labels.{LabelTaken, labelTaken}
@@ -31,7 +31,7 @@ use Rattle.store_definitions.specs.Parts.{baseOf, extraOf, tableLength, Rows, r
 use Rattle.store_definitions.specs.Answers.{kept, waiting, refused, Outcome, outcome}
 use Rattle.store_definitions.specs.Decisions.{andThen, refuseIf, formDecided}
 use Rattle.store_definitions.specs.Rows.{roomMade}
-use Rattle.store_definitions.specs.Adding.{pointLength, waits, tableFull, entriesFilled, AddDecided, keep, wait, refuseAdd, thenAdd, addDecided, windowAfter, sequenced, rowOf, labelGiven, labelled, tableGrown, placed, joins, overflows, laidRows, laidHow, keptAfter, indexGiven as givenIndex, keeps, addCarriedOut, addSpec}
+use Rattle.store_definitions.specs.Adding.{pointLength, waits, tableFull, entriesFilled, AddDecided, keep, wait, refuseAdd, thenAdd, addDecided, windowAfter, sequenced, rowOf, labelGiven, labelled, tableGrown, placed, joins, overflows, laidRows, laidHow, keptAfter, indexGiven as givenIndex, freeLeft, keeps, addCarriedOut, addSpec}
 use Rattle.store_definitions.specs.WellFormed.{wellFormed}
 use Rattle.store_laws.specs.BoundsLaws.{InBounds, base-some}
 use Rattle.store_laws.specs.Sound.{Sound, sound}
@@ -40,11 +40,13 @@ use Rattle.store_laws.specs.TableLaws.{grown-ready}
 use Rattle.store_laws.specs.DecisionLaws.{allowed}
 use Rattle.store_laws.specs.AddDecisionLaws.{Kept, waits-on, keeps-on}
 use Rattle.store_laws.specs.AddingLaws.{can-grow}
-use Rattle.store_check.specs.CheckLaws.{elementless, well-formed-lengths}
+use Rattle.store_laws.specs.FigureLaws.{free-and-live, grown-figure}
+use Rattle.store_check.specs.declared.Figures.{Figures}
+use Rattle.store_check.specs.Figures.{FiguresOf, counts-live}
 use Rattle.store_add.specs.declared.AddDecision.{AddDecision}
 use Rattle.store_add.specs.declared.AddDecision.the-variants as atDecision
 use Rattle.store_add.specs.Answering.{SequenceOpen, countedStore}
-use Rattle.store_add.specs.Deciding.{decisionMeans, checkedAsked, checked-is}
+use Rattle.store_add.specs.Deciding.{decisionMeans, asked-ill}
 use Rattle.store_add.specs.Pieces.{windowMoved, rowFrom, labelFor, grownTable, grownPlaces, IndexGiven, indexPlaced, indexFor}
 use Rattle.store_add.specs.Requires.{Roomy, Rowed, Labelled, IndexReady}
 use Rattle.store_add.proofs.RoomLaws.{base-most}
@@ -119,12 +121,13 @@ module _ (p : PointStore ℕ) (point : List ℕ) (code : ℕ) where
         room = record { bounds = w .bounds; table-within = w .table-within; rows = w .rows };
       }
 
-  pub label-ready : Keeps → s .«store_labels» ≡ true → Labelled s (labelHalf p) code
-  label-ready k on =
+  pub label-ready : Keeps → (f : Figures) → FiguresOf f p → s .«store_labels» ≡ true → Labelled s (labelHalf p) code (f .free)
+  label-ready k f figures on =
       record {
         well = labels-sound-make (s .classes) (s .capacity) (labelHalf p) (k .sound-store .labels on);
         coded = k .on .accepted .coded on;
         some = k .on .label-free on;
+        figures = figures .labels-free on;
       }
 
 place-small : (dims base : ℕ) (j : Bool) (free : ℕ) → placeOf (laidAs dims base j free) ≤ free
@@ -154,7 +157,7 @@ module _ (p : PointStore ℕ) (w : Sound p) (full : tableFull (p .header) ≡ fa
   t = pointTable p
 
   abbrev GrownWell : Counted → Type 0
-  GrownWell u = WellCounted (u .manager .capacity) u × ((0 < u .manager .last_in_use) × (u .manager .capacity ≤ h .capacity))
+  GrownWell u = WellCounted (u .manager .capacity) u × ((0 < u .manager .last_in_use) × ((u .manager .capacity ≤ h .capacity) × (t .manager .capacity ≤ u .manager .capacity)))
 
   grown-well : GrownWell (grownTable (h .capacity) t)
   unfolding grownTable
@@ -162,15 +165,25 @@ module _ (p : PointStore ℕ) (w : Sound p) (full : tableFull (p .header) ≡ fa
       elim (ℕ-discrete (h .«index_manager» .last_in_use) 0) [
         | yes e ↦
             let longer : ℕ = grown (tableLength h) 1 (h .capacity) in
-            let g = grown-ready p w longer (can-grow h (w .table-within) full e) (grown-within (tableLength h) 1 (h .capacity) (w .table-within) .1) in
+            let longer-fits = grown-within (tableLength h) 1 (h .capacity) (w .table-within) in
+            let g = grown-ready p w longer (can-grow h (w .table-within) full e) (longer-fits .1) in
             let c = g .well .whole in
-            rw (eq-eqb (h .«index_manager» .last_in_use) 0 e) (rw c (g .well, (g .some, g .within)))
-        | no d ↦ rw (ne-eqb (h .«index_manager» .last_in_use) 0 d) (w .points, (positive (h .«index_manager» .last_in_use) d, w .table-within))
+            rw (eq-eqb (h .«index_manager» .last_in_use) 0 e) (rw c (g .well, (g .some, (g .within, longer-fits .0))))
+        | no d ↦ rw (ne-eqb (h .«index_manager» .last_in_use) 0 d) (w .points, (positive (h .«index_manager» .last_in_use) d, (w .table-within, omega arith)))
       ]
 
-  pub index-ready : (dims base : ℕ) (j : Bool) (r : Rows ℕ) → r .free ≤ 65535 → h .capacity ≤ length (r .location) → (place : ℕ) → place ≡ placeOf (laidAs dims base j (r .free)) → IndexReady (h .capacity) t (r .location) place
-  index-ready dims base j r small lent place e =
+  live-counted : (f : Figures) → FiguresOf f p → f .live ≡ liveNumber (tableLength h) t
+  unfolding liveNumber
+  live-counted f figures = figures .live-is ∙ counts-live (tableLength h) (p .memory .referenceCount)
+
+  grown-free : (live : ℕ) → live ≡ liveNumber (tableLength h) t → WellCounted (grownTable (h .capacity) t .manager .capacity) (grownTable (h .capacity) t) → freeIndices (grownTable (h .capacity) t) ≡ grownTable (h .capacity) t .manager .capacity - live
+  unfolding grownTable
+  grown-free live e well = grown-figure (h .capacity) live t (w .table-within) (w .lent .counts-lent) e well
+
+  pub index-ready : (dims base : ℕ) (j : Bool) (r : Rows ℕ) → r .free ≤ 65535 → h .capacity ≤ length (r .location) → (place : ℕ) → place ≡ placeOf (laidAs dims base j (r .free)) → (f : Figures) → FiguresOf f p → IndexReady (h .capacity) t (r .location) place (f .live)
+  index-ready dims base j r small lent place e f figures =
       let g = grown-well in
+      let live = live-counted f figures in
       record {
         growable = record {
           well = w .points;
@@ -183,8 +196,10 @@ module _ (p : PointStore ℕ) (w : Sound p) (full : tableFull (p .header) ≡ fa
         };
         well = g .0;
         some = g .1 .0;
-        within = g .1 .1;
+        within = g .1 .1 .0;
         small = rw e (omega (arith, place-small dims base j (r .free)));
+        live-within = omega (arith, g .1 .1 .1, live, free-and-live (tableLength h) t (w .points));
+        figure = grown-free (f .live) live (g .0);
       }
 
 -- the parts of the definition
@@ -229,7 +244,7 @@ module _ (p : PointStore ℕ) where
 abbrev pub assembled : PointStore ℕ → Rows ℕ → LabelTaken → IndexGiven → (window elements : List ℕ) → Laid → ℕ → Outcome ℕ
 assembled p r l i window elements laid free =
     let s = p .header in
-    outcome (kept (i .index) (l .label) laid)
+    outcome (kept (i .index) (l .label) laid (i .free))
     (record {
       header = record {
         dimensions = s .dimensions;
@@ -285,7 +300,7 @@ module _ (p : PointStore ℕ) (point : List ℕ) (code : ℕ) where
     how = laidAs (q .dimensions) (baseOf q) j (r .free)
 
     keeps-fits : overflows wordsEqual q r row ≡ false → assembled p r (labelFor q (labelHalf p) code) (indexFor (q .capacity) (pointTable p) (r .location) (placeOf how)) (windowMoved q (p .memory .lastKnownShingle) point) (laidElements (q .dimensions) (baseOf q) j (r .free) (r .elements) row) how (laidFree (q .dimensions) (baseOf q) j (r .free)) ≡ keeps wordsEqual 0 p point code
-    unfolding keeps keptAfter rowOf windowAfter rowFrom windowMoved laidHow laidRows sequenced placed givenIndex indexFor indexPlaced
+    unfolding keeps keptAfter rowOf windowAfter rowFrom windowMoved laidHow laidRows sequenced placed givenIndex freeLeft indexFor indexPlaced
     keeps-fits h =
         rw (sym made, h, labelled-is p code, given-is p code, grown-is-table p, grown-is-table (withRows (laidRows wordsEqual q r row) (sequenced (withLabels (labelFor q (labelHalf p) code .after) p) point)))
 
@@ -309,7 +324,7 @@ module _ (d : AddDecision) (p : PointStore ℕ) (point : List ℕ) (code : ℕ) 
   unfolding addSpec
   added o e h = rw (sym e) h
 
--- the check sees of the elements only how many there are
-pub decided-as : (s : Store) (m : Memory ℕ) (point : List ℕ) (code : ℕ) → checkedAsked (pointStore s (elementless m)) (length point) code ≡ addDecided (pointStore s m) point code
-unfolding checkedAsked
-decided-as s m point code = rw (well-formed-lengths s m) (sym (checked-is (pointStore s m) point code))
+-- an ill-formed store is refused
+pub add-ill : (p : PointStore ℕ) (point : List ℕ) (code : ℕ) → wellFormed p ≡ false → outcome (refused 1) p ≡ addSpec wordsEqual 0 p point code
+unfolding addSpec
+add-ill p point code e = rw (asked-ill p point code e)

@@ -14,7 +14,7 @@ use Rattle.interval_store_manager.specs.WellFormed.{lentEnough, wellFormed}
 use Rattle.placement.specs.Growth.{grown}
 use Rattle.placement.specs.InPlace.{filled}
 use Rattle.labels.specs.Counted.{Counted, counted, indexTaken}
-use Rattle.labels.specs.CountedLaws.{next-within, index-given, index-taken}
+use Rattle.labels.specs.CountedLaws.{next-within, index-given, index-figure, index-taken}
 use Rattle.labels.specs.Decisions.{none}
 use Rattle.labels.specs.Labels.{Labels, LabelTaken, labelTaken}
 use Rattle.store_definitions.specs.declared.Store.{Store}
@@ -53,12 +53,13 @@ module _ (capacity : ℕ) (t : Counted) (location : List ℕ) where
   unfolding grownTable grownPlaces
   grown-not d = (rw (ne-eqb (t .manager .last_in_use) 0 d), rw (ne-eqb (t .manager .last_in_use) 0 d))
 
-  pub take-ready : (place : ℕ) → IndexReady capacity t location place → (u : Counted) → u ≡ grownTable capacity t → (location′ : List ℕ) → length location′ ≡ length location → Takeable u location′ × (place ≤ 65535)
-  take-ready place r u e location′ h = (
+  pub take-ready : (place : ℕ) → (live : ℕ) → IndexReady capacity t location place live → (u : Counted) → u ≡ grownTable capacity t → (location′ : List ℕ) → length location′ ≡ length location → Takeable u location′ (u .manager .capacity - live) × (place ≤ 65535)
+  take-ready place live r u e location′ h = (
     record {
       well = rw e (r .well);
       some = rw e (r .some);
       places-lent = rw e (omega (arith, r .within, r .growable .places-lent));
+      figure = rw e (sym (r .figure));
     },
     r .small,
   )
@@ -67,12 +68,12 @@ module _ (capacity : ℕ) (t : Counted) (location : List ℕ) where
   unfolding indexFor
   index-is place u location′ x e f h = h ∙ ap₂ (λ (v : Counted) (m : List ℕ). indexPlaced v m place) e f
 
-module _ (t : Counted) (location : List ℕ) (i : ℕ) (r : IntervalStoreManager) (ss es : List ℕ) (h : outcome (given i) r ss es ≡ taken (t .manager) (t .starts) (t .ends)) where
-  pub index-below : Takeable t location → i < t .manager .capacity
-  index-below w = rw (index-given t i r ss es h) (next-within (t .manager .capacity) t (w .well) (w .some))
+module _ (t : Counted) (location : List ℕ) (i free : ℕ) (r : IntervalStoreManager) (ss es : List ℕ) (h : outcome (given i free) r ss es ≡ taken (t .manager) (t .starts) (t .ends)) where
+  pub index-below : (before : ℕ) → Takeable t location before → i < t .manager .capacity
+  index-below before w = rw (index-given t i free r ss es h) (next-within (t .manager .capacity) t (w .well) (w .some))
 
-  pub placed-is : (place : ℕ) → indexGiven i (counted r (set (t .counts) i 1) ss es) (set location i place) ≡ indexPlaced t location place
+  pub placed-is : (place : ℕ) → indexGiven i free (counted r (set (t .counts) i 1) ss es) (set location i place) ≡ indexPlaced t location place
   unfolding indexPlaced
   placed-is place =
-      ap (λ (u : Counted). indexGiven i u (set location i place)) (index-taken t i r ss es h)
-      ∙ ap (λ (k : ℕ). indexGiven k (indexTaken t) (set location k place)) (index-given t i r ss es h)
+      ap (λ (u : Counted). indexGiven i free u (set location i place)) (index-taken t i free r ss es h)
+      ∙ ap₂ (λ (k n : ℕ). indexGiven k n (indexTaken t) (set location k place)) (index-given t i free r ss es h) (index-figure t i free r ss es h)

@@ -71,5 +71,5 @@ keptAdd s e r l i =
         «attribute_manager» = l .managers .«attribute_manager»;
         classes = s .classes;
       };
-      answer = Kept (record { index = record { 0 = i .index }; label = l .label; laid = r .laid });
+      answer = Kept (record { index = record { 0 = i .index }; label = l .label; laid = r .laid; «free_indices» = i .free });
     }

@@ -1,8 +1,8 @@
 -- An add's decision once the store is known to be well-formed: of the record, the point's length and the code alone.
 use Prim.Native.Nat.{ℕ, _≤_, _<_}
-use mathlib.Core.Bool.{Bool, true, false, cond, not}
+use mathlib.Core.Bool.{true, false, cond, not}
 use mathlib.Core.List.{List}
-use mathlib.Core.Path.{_≡_, refl}
+use mathlib.Core.Path.{_≡_}
 use lib.ListN.{length}
 use lib.Dec.{eqb}
 use Rattle.terms.specs.Refusals.{number}
@@ -45,18 +45,6 @@ module _ {E : Type 0} (p : PointStore E) (point : List E) (code : ℕ) where
   pub asked-ill : wellFormed p ≡ false → addDecided p point code ≡ refuseAdd 1
   unfolding addDecided formDecided
   asked-ill e = rw e
-
--- the check, and then the decision: of the elements only the lengths are asked
-unfoldable pub checkedAsked : {E : Type 0} → PointStore E → (length code : ℕ) → AddDecided
-checkedAsked p n code = cond (wellFormed p) (addAsked (p .header) n code) (refuseAdd 1)
-
-pub checked-is : {E : Type 0} (p : PointStore E) (point : List E) (code : ℕ) → addDecided p point code ≡ checkedAsked p (length point) code
-unfolding checkedAsked
-checked-is p point code = split (wellFormed p) refl
-  where
-    split : (b : Bool) → wellFormed p ≡ b → addDecided p point code ≡ cond b (addAsked (p .header) (length point) code) (refuseAdd 1)
-    split true e = asked-well p point code e
-    split false e = asked-ill p point code e
 
 -- what the decision asks of a well-formed store
 pub decision-asks : {E : Type 0} (p : PointStore E) → wellFormed p ≡ true → (0 < p .header .«shingle_size») × (tableLength (p .header) ≤ p .header .capacity)

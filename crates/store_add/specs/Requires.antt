@@ -1,11 +1,13 @@
 -- What the parts of an add ask of their callers.
-use Prim.Native.Nat.{ℕ, _≤_, _<_}
+use Prim.Native.Nat.{ℕ, _-_, _≤_, _<_}
 use mathlib.Core.Bool.{true}
 use mathlib.Core.List.{List}
 use mathlib.Core.Path.{_≡_}
 use lib.ListN.{length}
-use Rattle.labels.specs.Counted.{Counted}
+use Rattle.labels.specs.declared.LabelsFree.{LabelsFree}
+use Rattle.labels.specs.Counted.{Counted, freeIndices}
 use Rattle.labels.specs.CountedLaws.{WellCounted}
+use Rattle.labels.specs.Forms.{FreeOf}
 use Rattle.labels.specs.Labels.{Labels, labelsWell}
 use Rattle.store_definitions.specs.declared.Store.{Store}
 use Rattle.store_definitions.specs.Parts.{tableLength}
@@ -26,11 +28,12 @@ pub record Rowed (s : Store) (window point : List ℕ) : Type 0 where
   pub window-lent : s .dimensions ≤ length window
   pub sized : length point ≡ pointLength s
 
--- a label can be taken, with labels on
-pub record Labelled (s : Store) (l : Labels) (code : ℕ) : Type 0 where
+-- a label can be taken, with labels on; so many are free
+pub record Labelled (s : Store) (l : Labels) (code : ℕ) (free : LabelsFree) : Type 0 where
   pub well : labelsWell (s .classes) (s .capacity) l ≡ true
   pub coded : code ≤ 23
   pub some : 0 < s .«label_manager» .last_in_use
+  pub figures : FreeOf free l
 
 -- a table that can grow in what is lent
 pub record Growable (capacity : ℕ) (t : Counted) (location : List ℕ) : Type 0 where
@@ -42,16 +45,19 @@ pub record Growable (capacity : ℕ) (t : Counted) (location : List ℕ) : Type 
   pub ends-lent : capacity ≤ length (t .ends)
   pub places-lent : capacity ≤ length location
 
--- a table of which an index can be taken
-pub record Takeable (t : Counted) (location : List ℕ) : Type 0 where
+-- a table of which an index can be taken, and in which so many are free
+pub record Takeable (t : Counted) (location : List ℕ) (free : ℕ) : Type 0 where
   pub well : WellCounted (t .manager .capacity) t
   pub some : 0 < t .manager .last_in_use
   pub places-lent : t .manager .capacity ≤ length location
+  pub figure : free ≡ freeIndices t
 
--- once it has grown, if it had to
-pub record IndexReady (capacity : ℕ) (t : Counted) (location : List ℕ) (place : ℕ) : Type 0 where
+-- once it has grown, if it had to; so many are live
+pub record IndexReady (capacity : ℕ) (t : Counted) (location : List ℕ) (place live : ℕ) : Type 0 where
   pub growable : Growable capacity t location
   pub well : WellCounted (grownTable capacity t .manager .capacity) (grownTable capacity t)
   pub some : 0 < grownTable capacity t .manager .last_in_use
   pub within : grownTable capacity t .manager .capacity ≤ capacity
   pub small : place ≤ 65535
+  pub live-within : live ≤ grownTable capacity t .manager .capacity
+  pub figure : freeIndices (grownTable capacity t) ≡ grownTable capacity t .manager .capacity - live

@@ -2,6 +2,7 @@
 ghost use mathlib.Core.Path.{_≡_};
 ghost use Rattle.float_bits.specs.Words.{wordsEqual};
 ghost use Rattle.placement.specs.Laying.{placeOf};
+ghost use Rattle.store_check.specs.Figures.{FiguresOf};
 ghost use Rattle.store_definitions.specs.Adding.{addDecided, addCarriedOut};
 ghost use Rattle.store_definitions.specs.Answers.{addedMeans, outcome};
 ghost use Rattle.store_definitions.specs.Lent.{held, entered, left};
@@ -19,6 +20,7 @@ use crate::take::take_index;
 use labels::TakenLabel;
 use placement::Laid;
 use placement_rows::LaidRow;
+use store_check::Figures;
 use store_definitions::AddResult;
 use store_definitions::Added;
 use store_definitions::Kept;
@@ -81,6 +83,7 @@ fn kept(s: Store, extent: Extent, laid: LaidRow, taken: TakenLabel, index: Taken
             index: PointIndex(index.index),
             label,
             laid: how,
+            free_indices: index.free,
         }),
     }
 }
@@ -105,8 +108,9 @@ pub fn act(
     attribute_ends: &[u16],
     point: &[FloatBits],
     label: usize,
+    figures: Figures,
 ) -> AddResult
-    requires { ⌜ decisionMeans d ≡ addDecided (pointStore s (held store «last_known_shingle» «reference_count» location «index_starts» «index_ends» labels «label_attributes» «label_count» «label_starts» «label_ends» attributes «attribute_count» «attribute_starts» «attribute_ends»)) (now point) label ⌝ }
+    requires { ⌜ (decisionMeans d ≡ addDecided (pointStore s (held store «last_known_shingle» «reference_count» location «index_starts» «index_ends» labels «label_attributes» «label_count» «label_starts» «label_ends» attributes «attribute_count» «attribute_starts» «attribute_ends»)) (now point) label) × FiguresOf figures (pointStore s (held store «last_known_shingle» «reference_count» location «index_starts» «index_ends» labels «label_attributes» «label_count» «label_starts» «label_ends» attributes «attribute_count» «attribute_starts» «attribute_ends»)) ⌝ }
     ensures { λ r. ⌜ outcome (addedMeans (r .answer)) (pointStore (r .store) (left store «last_known_shingle» «reference_count» location «index_starts» «index_ends» labels «label_attributes» «label_count» «label_starts» «label_ends» attributes «attribute_count» «attribute_starts» «attribute_ends»)) ≡ addCarriedOut wordsEqual 0 (decisionMeans d) (pointStore s (entered store «last_known_shingle» «reference_count» location «index_starts» «index_ends» labels «label_attributes» «label_count» «label_starts» «label_ends» attributes «attribute_count» «attribute_starts» «attribute_ends»)) (now (point .entry)) label ⌝ }
 {
     match d {
@@ -128,6 +132,7 @@ pub fn act(
             let fits = room.fits;
             if fits {
                 let manager = s.index_manager;
+                let free = figures.free;
                 let taken = label_for(
                     s,
                     labels,
@@ -140,6 +145,7 @@ pub fn act(
                     attribute_starts,
                     attribute_ends,
                     label,
+                    free,
                 );
                 let laid = lay_row(
                     s,
@@ -159,6 +165,7 @@ pub fn act(
                     index_ends,
                     s.capacity,
                     place,
+                    figures.live,
                 );
                 return kept(s, extent, laid, taken, index);
             }

@@ -2,16 +2,13 @@
 ghost use mathlib.Core.Path.{_≡_};
 ghost use Prim.Native.Nat.{_≤_, _<_};
 ghost use Rattle.store_definitions.specs.Adding.{pointLength, waits, tableFull};
-ghost use Rattle.store_check.specs.Tables.{tablesAtEntry};
-ghost use Rattle.store_definitions.specs.Memory.{pointStore};
 ghost use Rattle.store_definitions.specs.Parts.{tableLength};
-ghost use Rattle.store_add.specs.Deciding.{decisionMeans, tableAsked, keepAsked, addAsked, checkedAsked};
+ghost use Rattle.store_add.specs.Deciding.{decisionMeans, tableAsked, keepAsked, addAsked};
 use crate::AddDecision;
 use interval_store_manager::Decision;
 use labels::code_decision;
 use labels::room_decision;
 use placement_rows::grown_length;
-use store_check::check;
 use store_definitions::Store;
 use terms::Refusal;
 
@@ -89,52 +86,4 @@ pub fn add_decision(s: Store, length: usize, code: usize) -> AddDecision
         Decision::Refuse(why) => AddDecision::Refuse(why),
         Decision::Go => keep_decision(s),
     }
-}
-
-// The check, and then the decision.
-pub fn checked_decision(
-    s: Store,
-    floats: usize,
-    window: usize,
-    reference_count: &[u16],
-    location: &[u16],
-    index_starts: &[u16],
-    index_ends: &[u16],
-    labels: &[u8],
-    label_attributes: &[u16],
-    label_count: &[u16],
-    label_starts: &[u16],
-    label_ends: &[u16],
-    attributes: &[u8],
-    attribute_count: &[u32],
-    attribute_starts: &[u16],
-    attribute_ends: &[u16],
-    length: usize,
-    code: usize,
-) -> AddDecision
-    ensures { λ r. ⌜ decisionMeans r ≡ checkedAsked (pointStore s (tablesAtEntry floats window «reference_count» location «index_starts» «index_ends» labels «label_attributes» «label_count» «label_starts» «label_ends» attributes «attribute_count» «attribute_starts» «attribute_ends»)) length code ⌝ }
-{
-    let checked = check(
-        s,
-        floats,
-        window,
-        reference_count,
-        location,
-        index_starts,
-        index_ends,
-        labels,
-        label_attributes,
-        label_count,
-        label_starts,
-        label_ends,
-        attributes,
-        attribute_count,
-        attribute_starts,
-        attribute_ends,
-    );
-    let ok = checked.ok;
-    if ok {
-        return add_decision(s, length, code);
-    }
-    AddDecision::Refuse(Refusal::IllFormed)
 }

@@ -2,6 +2,7 @@
 ghost use mathlib.Core.Bool.{true};
 ghost use mathlib.Core.Path.{_≡_};
 ghost use Rattle.float_bits.specs.Words.{wordsEqual};
+ghost use Rattle.store_check.specs.Figures.{FiguresOf};
 ghost use Rattle.store_definitions.specs.Adding.{addSpec};
 ghost use Rattle.store_definitions.specs.Answers.{addedMeans, outcome};
 ghost use Rattle.store_definitions.specs.Lent.{held, entered, left};
@@ -16,8 +17,10 @@ mod take;
 
 use act::act;
 use decide::add_decision;
-use decide::checked_decision;
+use store_check::Figures;
+use store_check::check;
 use store_definitions::AddResult;
+use store_definitions::Added;
 use store_definitions::Store;
 use terms::FloatBits;
 use terms::Refusal;
@@ -51,7 +54,7 @@ pub fn add(
 ) -> AddResult
     ensures { λ r. ⌜ outcome (addedMeans (r .answer)) (pointStore (r .store) (left store «last_known_shingle» «reference_count» location «index_starts» «index_ends» labels «label_attributes» «label_count» «label_starts» «label_ends» attributes «attribute_count» «attribute_starts» «attribute_ends»)) ≡ addSpec wordsEqual 0 (pointStore s (entered store «last_known_shingle» «reference_count» location «index_starts» «index_ends» labels «label_attributes» «label_count» «label_starts» «label_ends» attributes «attribute_count» «attribute_starts» «attribute_ends»)) (now (point .entry)) label ⌝ }
 {
-    let d = checked_decision(
+    let checked = check(
         s,
         store.len(),
         last_known_shingle.len(),
@@ -68,33 +71,39 @@ pub fn add(
         attribute_count,
         attribute_starts,
         attribute_ends,
-        point.len(),
-        label,
     );
-    act(
-        d,
-        s,
-        store,
-        last_known_shingle,
-        reference_count,
-        location,
-        index_starts,
-        index_ends,
-        labels,
-        label_attributes,
-        label_count,
-        label_starts,
-        label_ends,
-        attributes,
-        attribute_count,
-        attribute_starts,
-        attribute_ends,
-        point,
-        label,
-    )
+    let ok = checked.ok;
+    if ok {
+        let figures = checked.figures;
+        return add_unchecked(
+            s,
+            store,
+            last_known_shingle,
+            reference_count,
+            location,
+            index_starts,
+            index_ends,
+            labels,
+            label_attributes,
+            label_count,
+            label_starts,
+            label_ends,
+            attributes,
+            attribute_count,
+            attribute_starts,
+            attribute_ends,
+            point,
+            label,
+            figures,
+        );
+    }
+    AddResult {
+        store: s,
+        answer: Added::Refused(Refusal::IllFormed),
+    }
 }
 
-// For callers that have checked.
+// For callers that have checked, with what the check counted.
 pub fn add_unchecked(
     s: Store,
     store: &mut [FloatBits],
@@ -114,8 +123,9 @@ pub fn add_unchecked(
     attribute_ends: &[u16],
     point: &[FloatBits],
     label: usize,
+    figures: Figures,
 ) -> AddResult
-    requires { ⌜ wellFormed (pointStore s (held store «last_known_shingle» «reference_count» location «index_starts» «index_ends» labels «label_attributes» «label_count» «label_starts» «label_ends» attributes «attribute_count» «attribute_starts» «attribute_ends»)) ≡ true ⌝ }
+    requires { ⌜ (wellFormed (pointStore s (held store «last_known_shingle» «reference_count» location «index_starts» «index_ends» labels «label_attributes» «label_count» «label_starts» «label_ends» attributes «attribute_count» «attribute_starts» «attribute_ends»)) ≡ true) × FiguresOf figures (pointStore s (held store «last_known_shingle» «reference_count» location «index_starts» «index_ends» labels «label_attributes» «label_count» «label_starts» «label_ends» attributes «attribute_count» «attribute_starts» «attribute_ends»)) ⌝ }
     ensures { λ r. ⌜ outcome (addedMeans (r .answer)) (pointStore (r .store) (left store «last_known_shingle» «reference_count» location «index_starts» «index_ends» labels «label_attributes» «label_count» «label_starts» «label_ends» attributes «attribute_count» «attribute_starts» «attribute_ends»)) ≡ addSpec wordsEqual 0 (pointStore s (entered store «last_known_shingle» «reference_count» location «index_starts» «index_ends» labels «label_attributes» «label_count» «label_starts» «label_ends» attributes «attribute_count» «attribute_starts» «attribute_ends»)) (now (point .entry)) label ⌝ }
 {
     let d = add_decision(s, point.len(), label);
@@ -139,5 +149,6 @@ pub fn add_unchecked(
         attribute_ends,
         point,
         label,
+        figures,
     )
 }

@@ -8,6 +8,7 @@ ghost use Rattle.store_add.specs.Pieces.{managersOf, labelFor, grownTabl
 ghost use Rattle.store_add.specs.Requires.{Labelled, Growable, Takeable, IndexReady};
 use interval_store_manager::IntervalStoreManager;
 use labels::LabelManagers;
+use labels::LabelsFree;
 use labels::TakenLabel;
 use labels::take_label;
 use placement_rows::grow_table;
@@ -16,9 +17,10 @@ use store_definitions::Store;
 use terms::LabelIndex;
 use terms::NONE;
 
-// An index taken, with its manager after it.
+// An index taken, with how many remain free and its manager after it.
 pub struct TakenIndex {
     pub index: usize,
+    pub free: usize,
     pub manager: IntervalStoreManager,
 }
 
@@ -35,8 +37,9 @@ pub fn label_for(
     attribute_starts: &mut [u16],
     attribute_ends: &[u16],
     code: usize,
+    free: LabelsFree,
 ) -> TakenLabel
-    requires { ⌜ (s .«store_labels» ≡ true → Labelled s (held (managersOf s) labels «label_attributes» «label_count» «label_starts» «label_ends» attributes «attribute_count» «attribute_starts» «attribute_ends») code) ⌝ }
+    requires { ⌜ (s .«store_labels» ≡ true → Labelled s (held (managersOf s) labels «label_attributes» «label_count» «label_starts» «label_ends» attributes «attribute_count» «attribute_starts» «attribute_ends») code free) ⌝ }
     ensures { λ r. ⌜ labelOutcome (r .label) (left (r .managers) labels «label_attributes» «label_count» «label_starts» «label_ends» attributes «attribute_count» «attribute_starts» «attribute_ends») ≡ labelFor s (entered (managersOf s) labels «label_attributes» «label_count» «label_starts» «label_ends» attributes «attribute_count» «attribute_starts» «attribute_ends») code ⌝ }
 {
     let label_manager = s.label_manager;
@@ -60,6 +63,7 @@ pub fn label_for(
             attribute_starts,
             attribute_ends,
             code,
+            free,
         );
     }
     TakenLabel {
@@ -98,21 +102,24 @@ fn take_next(
     index_starts: &mut [u16],
     index_ends: &[u16],
     place: usize,
+    free: usize,
 ) -> TakenIndex
-    requires { ⌜ Takeable (counted manager (now «reference_count») (now «index_starts») (now «index_ends»)) (now location) × (place ≤ 65535) ⌝ }
-    ensures { λ r. ⌜ indexGiven (r .index) (counted (r .manager) (now («reference_count» .exit)) (now («index_starts» .exit)) (now («index_ends» .entry))) (now (location .exit)) ≡ indexPlaced (counted manager (now («reference_count» .entry)) (now («index_starts» .entry)) (now («index_ends» .entry))) (now (location .entry)) place ⌝ }
+    requires { ⌜ Takeable (counted manager (now «reference_count») (now «index_starts») (now «index_ends»)) (now location) free × (place ≤ 65535) ⌝ }
+    ensures { λ r. ⌜ indexGiven (r .index) (r .free) (counted (r .manager) (now («reference_count» .exit)) (now («index_starts» .exit)) (now («index_ends» .entry))) (now (location .exit)) ≡ indexPlaced (counted manager (now («reference_count» .entry)) (now («index_starts» .entry)) (now («index_ends» .entry))) (now (location .entry)) place ⌝ }
 {
-    let taken = manager.get_unchecked(index_starts, index_ends);
+    let taken = manager.get_unchecked(index_starts, index_ends, free);
     let index = taken.given.index;
     reference_count[index] = 1;
     location[index] = place as u16;
     let after = taken.manager;
     TakenIndex {
         index,
+        free: taken.given.free,
         manager: after,
     }
 }
 
+// How many are free is the table's length, once it has grown, less the live points.
 pub fn take_index(
     manager: IntervalStoreManager,
     reference_count: &mut [u16],
@@ -121,9 +128,10 @@ pub fn take_index(
     index_ends: &mut [u16],
     capacity: usize,
     place: usize,
+    live: usize,
 ) -> TakenIndex
-    requires { ⌜ IndexReady capacity (counted manager (now «reference_count») (now «index_starts») (now «index_ends»)) (now location) place ⌝ }
-    ensures { λ r. ⌜ indexGiven (r .index) (counted (r .manager) (now («reference_count» .exit)) (now («index_starts» .exit)) (now («index_ends» .exit))) (now (location .exit)) ≡ indexFor capacity (counted manager (now («reference_count» .entry)) (now («index_starts» .entry)) (now («index_ends» .entry))) (now (location .entry)) place ⌝ }
+    requires { ⌜ IndexReady capacity (counted manager (now «reference_count») (now «index_starts») (now «index_ends»)) (now location) place live ⌝ }
+    ensures { λ r. ⌜ indexGiven (r .index) (r .free) (counted (r .manager) (now («reference_count» .exit)) (now («index_starts» .exit)) (now («index_ends» .exit))) (now (location .exit)) ≡ indexFor capacity (counted manager (now («reference_count» .entry)) (now («index_starts» .entry)) (now («index_ends» .entry))) (now (location .entry)) place ⌝ }
 {
     let grown = grow_points(
         manager,
@@ -140,5 +148,6 @@ pub fn take_index(
         index_starts,
         index_ends,
         place,
+        grown.capacity - live,
     )
 }

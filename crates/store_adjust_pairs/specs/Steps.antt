@@ -8,7 +8,7 @@ use Rattle.store_definitions.specs.Answers.{Answer, kept, waiting, done, is, sa
 use Rattle.store_adjust_pairs.specs.declared.PairStep.{PairStep}
 
 abbrev pub accepted : Answer → Bool
-accepted (kept i l laid) = true
+accepted (kept i l laid left) = true
 accepted waiting = true
 accepted done = true
 accepted (is n) = true
@@ -22,7 +22,7 @@ checkedMeans false = refusedAfter 1 0
 
 -- a pair's answer, where `before` pairs stand before it
 abbrev pub afterPairs : ℕ → Answer → Answer
-afterPairs before (kept i l laid) = kept i l laid
+afterPairs before (kept i l laid left) = kept i l laid left
 afterPairs before waiting = waiting
 afterPairs before done = done
 afterPairs before (is n) = is n

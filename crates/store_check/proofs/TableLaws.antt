@@ -1,5 +1,5 @@
 -- The pass over the points' table decides the points' half of well-formedness.
-use Prim.Native.Nat.{ℕ, zero, suc, _+_, _-_, _*_, _<_}
+use Prim.Native.Nat.{ℕ, _+_, _-_, _*_, _<_}
 use native.Mathlib.Omega.{arith}
 use mathlib.Core.List.{List}
 use mathlib.Core.Bool.{Bool, true, false, _&&_, _||_, not, Bool·beq, false≢true}
@@ -7,7 +7,7 @@ use mathlib.Core.Path.{_≡_, refl, sym, _∙_, ap}
 use lib.ListN.{length, getD}
 use lib.Dec.{leb, ltb, eqb}
 use borrow.Author.Tests.{eq-eqb, ne-eqb, le-leb, ltb-true}
-use Rattle.terms.specs.Below.{one, both, everyBelow, every-at, every-and, sumBelow, countBelow}
+use Rattle.terms.specs.Below.{one, both, everyBelow, every-at, every-and}
 use Rattle.terms.specs.Entries.{any-default}
 use Rattle.interval_store_manager.specs.Intervals.{isFree, freeNumber}
 use Rattle.interval_store_manager.specs.Marks.{Marks, Marked}
@@ -18,6 +18,7 @@ use Rattle.store_definitions.specs.declared.Store.{Store}
 use Rattle.store_definitions.specs.Parts.{baseOf, tableLength}
 use Rattle.store_definitions.specs.WellFormed.{emptyUncounted, placesEnd}
 use Rattle.store_laws.specs.BoundsLaws.{in-bounds, base-some}
+use Rattle.store_laws.specs.FigureLaws.{one-of-two}
 use Rattle.store_check.specs.Entries.{placeLimit, entryWell, entriesWell, countsLive, PlacesBelow}
 use Rattle.store_check.specs.PointsTest.{tableTest, PointsReady, TableFound}
 use Rattle.store_check.proofs.EntryLaws.{ends-below, limit-most}
@@ -25,17 +26,6 @@ use Rattle.store_check.proofs.EntryLaws.{ends-below, limit-most}
 mark-is : (b : Bool) → eqb (one b) 1 ≡ b
 mark-is true = refl
 mark-is false = refl
-
--- each number passes one of two tests
-one-of-two : (n : ℕ) (p q : ℕ → Bool) → ((i : ℕ) → i < n → p i ≡ not (q i)) → countBelow n p + countBelow n q ≡ n
-unfolding countBelow sumBelow
-one-of-two zero p q h = refl
-one-of-two (suc n) p q h =
-    omega (arith, one-of-two n p q (λ i l. h i (omega arith)), ap one (h n (omega arith)), not-one (q n))
-  where
-    not-one : (b : Bool) → one (not b) + one b ≡ 1
-    not-one true = refl
-    not-one false = refl
 
 module _ (s : Store) (counts location starts ends marks : List ℕ) (r : PointsReady s counts location) where
   abbrev n : ℕ

@@ -63,6 +63,41 @@ recordTest s floats window counts places starts ends =
     && (leb c ends
     && (leb (tableLength s) c && (leb (s .«store_length») (c * s .dimensions) && (sequenceWell s && (tableAllowed (s .classes) && freeStartWell s)))))))))))
 
+-- the same without the table of classes
+unfoldable pub numbersTest : Store → (floats window counts places starts ends : ℕ) → Bool
+numbersTest s floats window counts places starts ends =
+    let c = s .capacity in
+    boundsHold (s .dimensions) (s .«shingle_size») c
+    && (rotationAllowed (s .«internal_rotation»)
+    && (leb (c * s .dimensions) floats
+    && (leb (s .dimensions) window
+    && (leb c counts
+    && (leb c places
+    && (leb c starts
+    && (leb c ends
+    && (leb (tableLength s) c && (leb (s .«store_length») (c * s .dimensions) && (sequenceWell s && freeStartWell s))))))))))
+
+pub record-parts : (s : Store) (floats window counts places starts ends : ℕ) → recordTest s floats window counts places starts ends ≡ (tableAllowed (s .classes) && numbersTest s floats window counts places starts ends)
+unfolding recordTest numbersTest
+record-parts s floats window counts places starts ends =
+    let t = tableAllowed (s .classes) in
+    let c = s .capacity in
+    moved t (boundsHold (s .dimensions) (s .«shingle_size») c) _ _
+    (moved t (rotationAllowed (s .«internal_rotation»)) _ _
+    (moved t (leb (c * s .dimensions) floats) _ _
+    (moved t (leb (s .dimensions) window) _ _
+    (moved t (leb c counts) _ _
+    (moved t (leb c places) _ _
+    (moved t (leb c starts) _ _
+    (moved t (leb c ends) _ _
+    (moved t (leb (tableLength s) c) _ _
+    (moved t (leb (s .«store_length») (c * s .dimensions)) _ _ (moved t (sequenceWell s) (t && freeStartWell s) (freeStartWell s) refl))))))))))
+  where
+    moved : (t a x y : Bool) → x ≡ (t && y) → (a && x) ≡ (t && (a && y))
+    moved true a x y e = ap (λ (b : Bool). a && b) e
+    moved false true x y e = e
+    moved false false x y e = refl
+
 labels-lent : {E : Type 0} (b : Bool) (p : PointStore E) → labelsOk b (p .header .classes) (p .header .capacity) (labelHalf p) ≡ true → cond b (labelsLent (p .header .capacity) (p .memory)) true ≡ true
 labels-lent true p e = labels-lent-make (p .header .capacity) p (sound (p .header .classes) (p .header .capacity) (labelHalf p) e)
 labels-lent false p e = refl

@@ -1,4 +1,5 @@
 pub mod Entries
+pub mod Figures
 pub mod PointsTest
 pub mod Tables
 pub mod CheckLaws

@@ -3,9 +3,8 @@
 ghost use mathlib.Core.Bool.{true};
 ghost use mathlib.Core.Path.{_≡_};
 ghost use Rattle.store_definitions.specs.Memory.{pointStore};
-ghost use Rattle.store_definitions.specs.Parts.{tableLength};
 ghost use Rattle.store_definitions.specs.WellFormed.{wellFormed};
-ghost use Rattle.store_check.specs.Entries.{countsLive};
+ghost use Rattle.store_check.specs.Figures.{FiguresOf};
 ghost use Rattle.store_check.specs.Tables.{tablesAtEntry};
 
 mod bounds;
@@ -17,17 +16,25 @@ pub use bounds::bounds_hold;
 pub use bounds::free_start_well;
 use label_check::labels_well_formed;
 use labels::LabelManagers;
+use labels::LabelsFree;
 pub use points::places_distinct;
 pub use record::Lengths;
+pub use record::numbers_well;
 pub use record::record_well;
 use store_definitions::Store;
 use table::points_well;
 pub use table::table_well;
 
-// What the check finds: whether the store is well-formed, and then how many points are live.
+// What the check counts: the live points and, with labels on, the free label indices and slots.
+pub struct Figures {
+    pub live: usize,
+    pub free: LabelsFree,
+}
+
+// What the check finds: whether the store is well-formed, and then what was counted.
 pub struct StoreChecked {
     pub ok: bool,
-    pub live: usize,
+    pub figures: Figures,
 }
 
 pub fn check(
@@ -48,7 +55,7 @@ pub fn check(
     attribute_starts: &[u16],
     attribute_ends: &[u16],
 ) -> StoreChecked
-    ensures { λ r. ⌜ (r .ok ≡ wellFormed (pointStore s (tablesAtEntry floats window «reference_count» location «index_starts» «index_ends» labels «label_attributes» «label_count» «label_starts» «label_ends» attributes «attribute_count» «attribute_starts» «attribute_ends»))) × ((r .ok ≡ true → r .live ≡ countsLive (tableLength s) (now («reference_count» .entry)))) ⌝ }
+    ensures { λ r. ⌜ (r .ok ≡ wellFormed (pointStore s (tablesAtEntry floats window «reference_count» location «index_starts» «index_ends» labels «label_attributes» «label_count» «label_starts» «label_ends» attributes «attribute_count» «attribute_starts» «attribute_ends»))) × ((r .ok ≡ true → FiguresOf (r .figures) (pointStore s (tablesAtEntry floats window «reference_count» location «index_starts» «index_ends» labels «label_attributes» «label_count» «label_starts» «label_ends» attributes «attribute_count» «attribute_starts» «attribute_ends»)))) ⌝ }
 {
     let lent = Lengths {
         floats,
@@ -68,7 +75,7 @@ pub fn check(
                 label_manager,
                 attribute_manager,
             };
-            let ok = labels_well_formed(
+            let half = labels_well_formed(
                 s.store_labels,
                 &s.classes,
                 s.capacity,
@@ -83,11 +90,24 @@ pub fn check(
                 attribute_starts,
                 attribute_ends,
             );
+            let free = half.free;
             return StoreChecked {
-                ok,
-                live: points.live,
+                ok: half.ok,
+                figures: Figures {
+                    live: points.live,
+                    free,
+                },
             };
         }
     }
-    StoreChecked { ok: false, live: 0 }
+    StoreChecked {
+        ok: false,
+        figures: Figures {
+            live: 0,
+            free: LabelsFree {
+                labels: 0,
+                slots: 0,
+            },
+        },
+    }
 }

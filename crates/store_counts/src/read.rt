@@ -101,7 +101,7 @@ pub fn live_number(
     );
     let well = checked.ok;
     if well {
-        return Number::Is(checked.live);
+        return Number::Is(checked.figures.live);
     }
     Number::Refused(Refusal::IllFormed)
 }

@@ -10,7 +10,7 @@ use Rattle.placement.specs.Growth.{grown}
 use Rattle.placement.specs.Laying.{writtenCount, laidAs, laidElements, laidFree, placeOf}
 use Rattle.placement.specs.Overlap.{overlaps}
 use Rattle.placement.specs.Row.{rowToLay, movedWindow}
-use Rattle.labels.specs.Counted.{counted, nextIndex, indexTaken}
+use Rattle.labels.specs.Counted.{counted, freeIndices, nextIndex, indexTaken}
 use Rattle.labels.specs.Decisions.{none, codeDecided, roomDecided}
 use Rattle.labels.specs.Labels.{labelTaken}
 use Rattle.store_definitions.specs.declared.Store.{Store}
@@ -144,6 +144,10 @@ module _ {E : Type 0} where
   unfoldable pub indexGiven : PointStore E → ℕ
   indexGiven p = nextIndex (pointTable (tableGrown p))
 
+  -- document 02: 'how many remain free', after growth and with the new point counted as live
+  unfoldable pub freeLeft : PointStore E → ℕ
+  freeLeft p = freeIndices (indexTaken (pointTable (tableGrown p)))
+
 module _ {E : Type 0} (eq : E → E → Bool) (zeroElement : E) where
   -- room is made for the row. '10 leaves floats, places, free start and store length as compaction and growth made them'
   unfoldable pub keeps : PointStore E → List E → ℕ → Outcome E
@@ -152,7 +156,7 @@ module _ {E : Type 0} (eq : E → E → Bool) (zeroElement : E) where
       let row = rowOf p point in
       let r = roomMade zeroElement s (rowsOf p) in
       cond (overflows eq s r row) (outcome (refused 10) (withRows r p))
-      (outcome (kept (indexGiven p) (labelGiven p) (laidHow eq s r row)) (keptAfter eq r row p point code))
+      (outcome (kept (indexGiven p) (labelGiven p) (laidHow eq s r row) (freeLeft p)) (keptAfter eq r row p point code))
 
   abbrev pub addCarriedOut : AddDecided → PointStore E → List E → ℕ → Outcome E
   addCarriedOut keep p point code = keeps p point code

@@ -17,8 +17,8 @@ use Rattle.store_definitions.specs.declared.Equality.the-variants as atE
 use Rattle.store_definitions.specs.Memory.{PointStore}
 
 pub data Answer : Type 0 where
-  -- a kept add: index, label index and how the row was laid
-  kept : ℕ → ℕ → Laid → Answer
+  -- a kept add: index, label index, how the row was laid and how many point indices remain free
+  kept : ℕ → ℕ → Laid → ℕ → Answer
   -- an accepted add that keeps no point yet
   waiting : Answer
   -- an accepted call that has no value
@@ -33,7 +33,7 @@ pub data Answer : Type 0 where
   refusedAfter : ℕ → ℕ → Answer
 
 abbrev pub addedMeans : Added → Answer
-addedMeans (atAdd.Kept k) = kept (k .index .0) (k .label .0) (k .laid)
+addedMeans (atAdd.Kept k) = kept (k .index .0) (k .label .0) (k .laid) (k .«free_indices»)
 addedMeans atAdd.Waiting = waiting
 addedMeans (atAdd.Refused r) = refused (number r)
 

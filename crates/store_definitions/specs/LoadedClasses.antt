@@ -14,7 +14,7 @@ use Rattle.class_table.specs.Reasons.{reasonClasses}
 use Rattle.class_table.specs.Table.{someBelow, largestBelow, tableAllowed}
 use Rattle.class_table.specs.Text.{numbered, tableText, classesOf, tableRead}
 use Rattle.interval_store_manager.specs.Calls.{pushed, changed, taken, released}
-use Rattle.interval_store_manager.specs.Intervals.{inside, holders, isFree, inBounds, noneShared}
+use Rattle.interval_store_manager.specs.Intervals.{inside, holders, isFree, freeNumber, inBounds, noneShared}
 use Rattle.interval_store_manager.specs.WellFormed.{capacityAllowed, lentEnough as stackLent, wellFormed as managerWellFormed}
 use Rattle.placement.specs.Growth.{grown}
 use Rattle.placement.specs.Laying.{writtenCount, laidAs, laidElements, laidFree, placeOf}
@@ -32,7 +32,7 @@ use Rattle.store_definitions.specs.Opening.{noRecord, freshWith, openedM
 use Rattle.store_definitions.specs.Counting.{liveNumberSpec}
 use Rattle.store_definitions.specs.LabelReadings.{attributeSpec}
 use Rattle.store_definitions.specs.Rows.{compactedRows, grownRows, short, roomMade}
-use Rattle.store_definitions.specs.Adding.{pointLength, waits, tableFull, entriesFilled, addDecided, windowAfter, sequenced, rowOf, labelGiven, labelled, tableGrown, placed, joins, overflows, laidRows, laidHow, keptAfter, indexGiven, keeps, addSpec}
+use Rattle.store_definitions.specs.Adding.{pointLength, waits, tableFull, entriesFilled, addDecided, windowAfter, sequenced, rowOf, labelGiven, labelled, tableGrown, placed, joins, overflows, laidRows, laidHow, keptAfter, indexGiven, freeLeft, keeps, addSpec}
 use Rattle.store_definitions.specs.Bounds.{boundsHold, startAllowed, rotationAllowed, labelsLent, lentEnough}
 use Rattle.store_definitions.specs.Decisions.{formDecided}
 use Rattle.store_definitions.specs.WellFormed.{tableLengthWell, storeLengthWell, freeStartWell, emptyUncounted, placesDistinct, placesEnd, sequenceWell, wellFormed}
@@ -100,12 +100,12 @@ after-adds =
 
 -- the class answer reads the loaded table
 pub classes-answered : _≡_ {A = List Answer} (attributeSpec after-adds 0 ∷ attributeSpec after-adds 1 ∷ attributeSpec after-adds 2 ∷ []) (is 2 ∷ is 1 ∷ is 0 ∷ [])
-unfolding openedMemory opened openDecided openSpec reasonClasses everyBelow sumBelow countBelow allEqual firstBelow wordsEqual column columns field digit valueFrom fields line lines someBelow largestBelow tableAllowed numbered tableText classesOf tableRead pushed changed taken released inside holders isFree inBounds noneShared capacityAllowed stackLent managerWellFormed grown writtenCount laidAs laidElements laidFree placeOf overlaps rowToLay movedWindow managed freeUncounted countsFit indexTaken raised lowered liveNumber codeDecided roomDecided inUse labelsWell differ slotSum labelTaken slotTaken classSlot holdsClass tablesLent codesAllowed slotsHoldClasses classesDistinct slotsSummed labelsOpened attributeRead liveNumberSpec attributeSpec compactedRows grownRows short roomMade pointLength waits tableFull entriesFilled addDecided windowAfter sequenced rowOf labelGiven labelled tableGrown placed joins overflows laidRows laidHow keptAfter indexGiven keeps addSpec boundsHold startAllowed rotationAllowed labelsLent lentEnough formDecided tableLengthWell storeLengthWell freeStartWell emptyUncounted placesDistinct placesEnd sequenceWell wellFormed
+unfolding openedMemory opened openDecided openSpec reasonClasses everyBelow sumBelow countBelow allEqual firstBelow wordsEqual column columns field digit valueFrom fields line lines someBelow largestBelow tableAllowed numbered tableText classesOf tableRead pushed changed taken released inside holders isFree freeNumber inBounds noneShared capacityAllowed stackLent managerWellFormed grown writtenCount laidAs laidElements laidFree placeOf overlaps rowToLay movedWindow managed freeUncounted countsFit indexTaken raised lowered liveNumber codeDecided roomDecided inUse labelsWell differ slotSum labelTaken slotTaken classSlot holdsClass tablesLent codesAllowed slotsHoldClasses classesDistinct slotsSummed labelsOpened attributeRead liveNumberSpec attributeSpec compactedRows grownRows short roomMade pointLength waits tableFull entriesFilled addDecided windowAfter sequenced rowOf labelGiven labelled tableGrown placed joins overflows laidRows laidHow keptAfter indexGiven freeLeft keeps addSpec boundsHold startAllowed rotationAllowed labelsLent lentEnough formDecided tableLengthWell storeLengthWell freeStartWell emptyUncounted placesDistinct placesEnd sequenceWell wellFormed
 classes-answered = refl
 
 -- a record whose table has a gap is ill-formed
 pub gap-ill-formed : liveNumberSpec (pointStore (freshWith shape (2 ∷ replicate 23 0)) (fresh .memory)) ≡ refused 1
-unfolding openedMemory opened openDecided openSpec reasonClasses everyBelow sumBelow countBelow allEqual firstBelow wordsEqual column columns field digit valueFrom fields line lines someBelow largestBelow tableAllowed numbered tableText classesOf tableRead pushed changed taken released inside holders isFree inBounds noneShared capacityAllowed stackLent managerWellFormed grown writtenCount laidAs laidElements laidFree placeOf overlaps rowToLay movedWindow managed freeUncounted countsFit indexTaken raised lowered liveNumber codeDecided roomDecided inUse labelsWell differ slotSum labelTaken slotTaken classSlot holdsClass tablesLent codesAllowed slotsHoldClasses classesDistinct slotsSummed labelsOpened attributeRead liveNumberSpec attributeSpec compactedRows grownRows short roomMade pointLength waits tableFull entriesFilled addDecided windowAfter sequenced rowOf labelGiven labelled tableGrown placed joins overflows laidRows laidHow keptAfter indexGiven keeps addSpec boundsHold startAllowed rotationAllowed labelsLent lentEnough formDecided tableLengthWell storeLengthWell freeStartWell emptyUncounted placesDistinct placesEnd sequenceWell wellFormed
+unfolding openedMemory opened openDecided openSpec reasonClasses everyBelow sumBelow countBelow allEqual firstBelow wordsEqual column columns field digit valueFrom fields line lines someBelow largestBelow tableAllowed numbered tableText classesOf tableRead pushed changed taken released inside holders isFree freeNumber inBounds noneShared capacityAllowed stackLent managerWellFormed grown writtenCount laidAs laidElements laidFree placeOf overlaps rowToLay movedWindow managed freeUncounted countsFit indexTaken raised lowered liveNumber codeDecided roomDecided inUse labelsWell differ slotSum labelTaken slotTaken classSlot holdsClass tablesLent codesAllowed slotsHoldClasses classesDistinct slotsSummed labelsOpened attributeRead liveNumberSpec attributeSpec compactedRows grownRows short roomMade pointLength waits tableFull entriesFilled addDecided windowAfter sequenced rowOf labelGiven labelled tableGrown placed joins overflows laidRows laidHow keptAfter indexGiven freeLeft keeps addSpec boundsHold startAllowed rotationAllowed labelsLent lentEnough formDecided tableLengthWell storeLengthWell freeStartWell emptyUncounted placesDistinct placesEnd sequenceWell wellFormed
 gap-ill-formed = refl
 
 -- one line less: 17, and nothing is opened

@@ -18,7 +18,7 @@ use Rattle.class_table.specs.Reasons.{reasonClasses}
 use Rattle.class_table.specs.Table.{someBelow, largestBelow, tableAllowed}
 use Rattle.class_table.specs.Text.{numbered, tableText, classesOf, tableRead}
 use Rattle.interval_store_manager.specs.Calls.{pushed, changed, taken, released}
-use Rattle.interval_store_manager.specs.Intervals.{inside, holders, isFree, inBounds, noneShared}
+use Rattle.interval_store_manager.specs.Intervals.{inside, holders, isFree, freeNumber, inBounds, noneShared}
 use Rattle.interval_store_manager.specs.WellFormed.{capacityAllowed, lentEnough as stackLent, wellFormed as managerWellFormed}
 use Rattle.placement.specs.Alignment.{wrappingSub, wrappingAdd, alignment, zerosBefore}
 use Rattle.placement.specs.Compaction.{holds, liveBelow, moved, grownBlocks, blocks, blockMoves, copiedDown, settled, blockDown, blocksDown, writtenByBlocks, compacted}
@@ -36,7 +36,7 @@ use Rattle.store_definitions.specs.Answers.{Answer, kept, waiting, done,
 use Rattle.store_definitions.specs.Opening.{openDecided, openedMemory, opened, openSpec}
 use Rattle.store_definitions.specs.Counting.{decTest, placeAfterDec, decremented, decSpec, liveNumberSpec, freeStartSpec}
 use Rattle.store_definitions.specs.Rows.{compactedRows, grownRows, short, roomMade, compactSpec, copyOf, copyDecided, copyWritten, copySpec}
-use Rattle.store_definitions.specs.Adding.{pointLength, waits, tableFull, addDecided, windowAfter, sequenced, rowOf, labelGiven, labelled, entriesFilled, tableGrown, placed, joins, overflows, laidRows, laidHow, keptAfter, indexGiven, keeps, addSpec}
+use Rattle.store_definitions.specs.Adding.{pointLength, waits, tableFull, addDecided, windowAfter, sequenced, rowOf, labelGiven, labelled, entriesFilled, tableGrown, placed, joins, overflows, laidRows, laidHow, keptAfter, indexGiven, freeLeft, keeps, addSpec}
 use Rattle.store_definitions.specs.Bounds.{boundsHold, startAllowed, rotationAllowed, lentEnough}
 use Rattle.store_definitions.specs.Decisions.{formDecided, live, touchDecided}
 use Rattle.store_definitions.specs.WellFormed.{tableLengthWell, storeLengthWell, freeStartWell, emptyUncounted, placesDistinct, placesEnd, sequenceWell, wellFormed}
@@ -139,7 +139,7 @@ abbrev five : List Call
 five = add (1 ∷ 2 ∷ []) ∷ add (3 ∷ 4 ∷ []) ∷ add (5 ∷ 6 ∷ []) ∷ add (7 ∷ 8 ∷ []) ∷ add (9 ∷ 10 ∷ []) ∷ []
 
 abbrev fiveAnswers : List Answer
-fiveAnswers = done ∷ waiting ∷ kept 0 none (Whole 0) ∷ kept 1 none (Joined 1) ∷ kept 2 none (Joined 2) ∷ kept 3 none (Joined 3) ∷ []
+fiveAnswers = done ∷ waiting ∷ kept 0 none (Whole 0) 4 ∷ kept 1 none (Joined 1) 3 ∷ kept 2 none (Joined 2) 2 ∷ kept 3 none (Joined 3) 1 ∷ []
 
 abbrev e : ℕ
 e = 65535
@@ -153,6 +153,7 @@ cases =
       copiedIndex = 0;
       said = record { answers = take 2 fiveAnswers; places = e ∷ e ∷ e ∷ e ∷ e ∷ []; before = []; free = is 0; live = is 0; copy = output (refused 5) (replicate 4 77) };
     }
+    -- the last number of a kept answer is the table length, here 5, less the live points
     -- B: 3 4: index 0, Whole, place 0, free start 4
     ∷ record {
       opening = plain;
@@ -186,7 +187,7 @@ cases =
       opening = plain;
       calls = five ++ dec 0 ∷ dec 1 ∷ compact ∷ add (11 ∷ 12 ∷ []) ∷ [];
       copiedIndex = 0;
-      said = record { answers = fiveAnswers ++ done ∷ done ∷ done ∷ kept 0 none (Joined 2) ∷ []; places = 2 ∷ e ∷ 0 ∷ 1 ∷ e ∷ []; before = floats (5 ∷ 6 ∷ 7 ∷ 8 ∷ 9 ∷ 10 ∷ 11 ∷ 12 ∷ []); free = is 8; live = is 3; copy = copies (9 ∷ 10 ∷ 11 ∷ 12 ∷ []) };
+      said = record { answers = fiveAnswers ++ done ∷ done ∷ done ∷ kept 0 none (Joined 2) 2 ∷ []; places = 2 ∷ e ∷ 0 ∷ 1 ∷ e ∷ []; before = floats (5 ∷ 6 ∷ 7 ∷ 8 ∷ 9 ∷ 10 ∷ 11 ∷ 12 ∷ []); free = is 8; live = is 3; copy = copies (9 ∷ 10 ∷ 11 ∷ 12 ∷ []) };
     }
     -- F: rotating, after C, copy 1 is 5 6 3 4
     ∷ record {
@@ -214,21 +215,22 @@ cases =
       opening = shape false true 2 2;
       calls = add (1 ∷ 2 ∷ 3 ∷ 4 ∷ []) ∷ add (3 ∷ 4 ∷ 5 ∷ 6 ∷ []) ∷ dec 0 ∷ add (9 ∷ 9 ∷ 9 ∷ 9 ∷ []) ∷ [];
       copiedIndex = 1;
-      said = record { answers = done ∷ kept 0 none (Whole 0) ∷ kept 1 none (Joined 1) ∷ done ∷ refused 10 ∷ []; places = e ∷ 1 ∷ []; before = floats (0 ∷ 0 ∷ 3 ∷ 4 ∷ 5 ∷ 6 ∷ []); free = is 6; live = is 1; copy = copies (5 ∷ 6 ∷ 3 ∷ 4 ∷ []) };
+      said = record { answers = done ∷ kept 0 none (Whole 0) 1 ∷ kept 1 none (Joined 1) 0 ∷ done ∷ refused 10 ∷ []; places = e ∷ 1 ∷ []; before = floats (0 ∷ 0 ∷ 3 ∷ 4 ∷ 5 ∷ 6 ∷ []); free = is 6; live = is 1; copy = copies (5 ∷ 6 ∷ 3 ∷ 4 ∷ []) };
     }
-    -- a start of 1 grows to its capacity of 3, by an index and a point's floats at a time; there an index is denied
+    -- a start of 1 grows to its capacity of 3, by an index and a point's floats at a time, so none is left after any add; there an index
+    -- is denied
     ∷ record {
       opening = shape false false 3 1;
       calls = add (1 ∷ 2 ∷ 3 ∷ 4 ∷ []) ∷ add (5 ∷ 6 ∷ 7 ∷ 8 ∷ []) ∷ add (9 ∷ 9 ∷ 9 ∷ 9 ∷ []) ∷ add (1 ∷ 2 ∷ 3 ∷ 4 ∷ []) ∷ [];
       copiedIndex = 2;
-      said = record { answers = done ∷ kept 0 none (Whole 0) ∷ kept 1 none (Whole 2) ∷ kept 2 none (Whole 4) ∷ refused 9 ∷ []; places = 0 ∷ 2 ∷ 4 ∷ []; before = floats (1 ∷ 2 ∷ 3 ∷ 4 ∷ 5 ∷ 6 ∷ 7 ∷ 8 ∷ 9 ∷ 9 ∷ 9 ∷ 9 ∷ []); free = is 12; live = is 3; copy = copies (9 ∷ 9 ∷ 9 ∷ 9 ∷ []) };
+      said = record { answers = done ∷ kept 0 none (Whole 0) 0 ∷ kept 1 none (Whole 2) 0 ∷ kept 2 none (Whole 4) 0 ∷ refused 9 ∷ []; places = 0 ∷ 2 ∷ 4 ∷ []; before = floats (1 ∷ 2 ∷ 3 ∷ 4 ∷ 5 ∷ 6 ∷ 7 ∷ 8 ∷ 9 ∷ 9 ∷ 9 ∷ 9 ∷ []); free = is 12; live = is 3; copy = copies (9 ∷ 9 ∷ 9 ∷ 9 ∷ []) };
     }
     ∷ []
 
 -- an answer as numbers: which kind it is, and what it holds
 numbers : Answer → List ℕ
-numbers (kept i l (Whole place)) = 0 ∷ i ∷ l ∷ 0 ∷ place ∷ []
-numbers (kept i l (Joined place)) = 0 ∷ i ∷ l ∷ 1 ∷ place ∷ []
+numbers (kept i l (Whole place) left) = 0 ∷ i ∷ l ∷ 0 ∷ place ∷ left ∷ []
+numbers (kept i l (Joined place) left) = 0 ∷ i ∷ l ∷ 1 ∷ place ∷ left ∷ []
 numbers waiting = 1 ∷ []
 numbers done = 2 ∷ []
 numbers (is n) = 3 ∷ n ∷ []
@@ -256,5 +258,5 @@ hold (c ∷ cs) = agree (ran c) (c .said) && hold cs
 
 -- every case gives what is said of it
 worked-windows : hold cases ≡ true
-unfolding shape rubbish floats called run ran copies cases numbers same alike agree hold ofInt toBits wordsEqual tableRead tableText numbered classesOf lines line fields field columns column valueFrom digit reasonClasses tableAllowed someBelow largestBelow everyBelow sumBelow countBelow allEqual pushed changed taken released inside holders isFree inBounds noneShared capacityAllowed stackLent managerWellFormed wrappingSub wrappingAdd alignment zerosBefore holds liveBelow moved grownBlocks blocks blockMoves copiedDown settled blockDown blocksDown writtenByBlocks compacted turn turned copied grown writtenCount laidAs laidElements laidFree placeOf overlaps rowToLay movedWindow managed freeUncounted countsFit indexTaken lowered codeDecided roomDecided decDecided openDecided openedMemory opened openSpec decTest placeAfterDec decremented decSpec compactedRows grownRows short roomMade compactSpec copyOf copyDecided copyWritten copySpec liveNumber liveNumberSpec freeStartSpec pointLength waits tableFull addDecided windowAfter sequenced rowOf labelGiven labelled entriesFilled tableGrown placed joins overflows laidRows laidHow keptAfter indexGiven keeps addSpec boundsHold startAllowed rotationAllowed lentEnough formDecided live touchDecided tableLengthWell storeLengthWell freeStartWell emptyUncounted placesDistinct placesEnd sequenceWell wellFormed
+unfolding shape rubbish floats called run ran copies cases numbers same alike agree hold ofInt toBits wordsEqual tableRead tableText numbered classesOf lines line fields field columns column valueFrom digit reasonClasses tableAllowed someBelow largestBelow everyBelow sumBelow countBelow allEqual pushed changed taken released inside holders isFree freeNumber inBounds noneShared capacityAllowed stackLent managerWellFormed wrappingSub wrappingAdd alignment zerosBefore holds liveBelow moved grownBlocks blocks blockMoves copiedDown settled blockDown blocksDown writtenByBlocks compacted turn turned copied grown writtenCount laidAs laidElements laidFree placeOf overlaps rowToLay movedWindow managed freeUncounted countsFit indexTaken lowered codeDecided roomDecided decDecided openDecided openedMemory opened openSpec decTest placeAfterDec decremented decSpec compactedRows grownRows short roomMade compactSpec copyOf copyDecided copyWritten copySpec liveNumber liveNumberSpec freeStartSpec pointLength waits tableFull addDecided windowAfter sequenced rowOf labelGiven labelled entriesFilled tableGrown placed joins overflows laidRows laidHow keptAfter indexGiven freeLeft keeps addSpec boundsHold startAllowed rotationAllowed lentEnough formDecided live touchDecided tableLengthWell storeLengthWell freeStartWell emptyUncounted placesDistinct placesEnd sequenceWell wellFormed
 worked-windows = refl

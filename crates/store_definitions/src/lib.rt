@@ -37,11 +37,13 @@ pub struct Shape {
     pub store_labels: bool,
 }
 
-// What a kept add gives: the point's index, the label's index (none with labels off) and how the row was laid.
+// What a kept add gives: the point's index, the label's index (none with labels off), how the row was laid and how many point indices
+// remain free.
 pub struct Kept {
     pub index: PointIndex,
     pub label: LabelIndex,
     pub laid: Laid,
+    pub free_indices: usize,
 }
 
 pub enum Added {

@@ -23,7 +23,7 @@ use Rattle.store_definitions.specs.Memory.{PointStore}
 use Rattle.store_definitions.specs.Answers.{kept, refused, outcome}
 use Rattle.store_definitions.specs.Parts.{baseOf, tableLength, pointTable, labelHalf, Rows, rowsOf, withRows, withPoints, withLabels}
 use Rattle.store_definitions.specs.Rows.{roomMade}
-use Rattle.store_definitions.specs.Adding.{pointLength, tableFull, entriesFilled, AddDecided, keep, wait, refuseAdd, addDecided, sequenced, rowOf, labelGiven, labelled, tableGrown, placed, overflows, laidRows, laidHow, keptAfter, indexGiven, keeps, addCarriedOut, addSpec}
+use Rattle.store_definitions.specs.Adding.{pointLength, tableFull, entriesFilled, AddDecided, keep, wait, refuseAdd, addDecided, sequenced, rowOf, labelGiven, labelled, tableGrown, placed, overflows, laidRows, laidHow, keptAfter, indexGiven, freeLeft, keeps, addCarriedOut, addSpec}
 use Rattle.store_definitions.specs.WellFormed.{wellFormed}
 use Rattle.store_laws.specs.Sound.{RowsSound, Sound, sound, sound-make}
 use Rattle.store_laws.specs.RowsLaws.{RowsOf, with-rows, room-sound, room-empty}
@@ -157,7 +157,7 @@ module _ {E : Type 0} (eq : E → E → Bool) (zeroElement : E) (p : PointStore 
           let r : Rows E = roomMade zeroElement (p .header) (rowsOf p) in
           let row : List E = rowOf p point in
           by-cases (λ o. Sound (o .after)) (overflows eq (p .header) r row) (outcome (refused 10) (withRows r p))
-          (outcome (kept (indexGiven p) (labelGiven p) (laidHow eq (p .header) r row)) (keptAfter eq (roomMade zeroElement (p .header) (rowsOf p)) (rowOf p point) p point code))
+          (outcome (kept (indexGiven p) (labelGiven p) (laidHow eq (p .header) r row) (freeLeft p)) (keptAfter eq (roomMade zeroElement (p .header) (rowsOf p)) (rowOf p point) p point code))
           (λ full. room-kept eq zeroElement p w point code k)
           (λ fits. kept-sound eq zeroElement p w point code k fits)
       split wait e = let a = waits-on p point code e in sequenced-sound p point w (a .sized) (a .unfinished)

@@ -6,8 +6,8 @@ use mathlib.Core.Path.{_≡_, refl}
 use lib.ListN.{length, getD, set, length-set}
 use lib.Dec.{ltb, eqb}
 use Rattle.interval_store_manager.specs.declared.IntervalStoreManager.{IntervalStoreManager}
-use Rattle.interval_store_manager.specs.Answers.{done, given, Outcome, outcome}
-use Rattle.interval_store_manager.specs.Calls.{manager, pushed, changed, taken, released}
+use Rattle.interval_store_manager.specs.Answers.{done, Outcome, outcome}
+use Rattle.interval_store_manager.specs.Calls.{manager, gives, pushed, changed, taken, released}
 use Rattle.labels.specs.Counted.{Counted, counted, countAt, nextIndex, indexTaken, raised, lowered}
 use Rattle.store_laws.specs.Cases.{either}
 
@@ -26,8 +26,8 @@ module _ (m : IntervalStoreManager) (ss es : List ℕ) where
   pub taken-lengths : SameStack ss es (taken m ss es)
   unfolding taken
   taken-lengths =
-      either (SameStack ss es) (eqb start (getD es top 0)) (outcome (given start) (manager (m .capacity) top) ss es)
-      (outcome (given start) m (set ss top (start + 1)) es)
+      either (SameStack ss es) (eqb start (getD es top 0)) (gives start (manager (m .capacity) top) ss es)
+      (gives start m (set ss top (start + 1)) es)
       (record { starts-same = refl; ends-same = refl })
       (record { starts-same = length-set ss top (start + 1); ends-same = refl })
 

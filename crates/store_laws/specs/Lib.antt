@@ -15,6 +15,7 @@ pub mod LaidLaws
 pub mod AddDecisionLaws
 pub mod WindowLaws
 pub mod AddingLaws
+pub mod FigureLaws
 pub mod OpeningLaws
 pub mod RefusalLaws
 pub mod GrowthLaws

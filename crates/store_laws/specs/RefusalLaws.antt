@@ -15,7 +15,7 @@ use Rattle.store_definitions.specs.Parts.{Rows, rowsOf, withRows}
 use Rattle.store_definitions.specs.Decisions.{andThen, refuseIf, formDecided, carriedOut}
 use Rattle.store_definitions.specs.Counting.{incTest, decTest, incremented, decremented, incSpec, decSpec}
 use Rattle.store_definitions.specs.Rows.{compactedRows, roomMade, compactSpec}
-use Rattle.store_definitions.specs.Adding.{pointLength, waits, tableFull, AddDecided, keep, wait, refuseAdd, thenAdd, addDecided, rowOf, labelGiven, overflows, laidHow, keptAfter, indexGiven, keeps, addCarriedOut, addSpec}
+use Rattle.store_definitions.specs.Adding.{pointLength, waits, tableFull, AddDecided, keep, wait, refuseAdd, thenAdd, addDecided, rowOf, labelGiven, overflows, laidHow, keptAfter, indexGiven, freeLeft, keeps, addCarriedOut, addSpec}
 use Rattle.store_laws.specs.DecisionLaws.{Never, never-then, never-if, form-never}
 
 module _ {E : Type 0} where
@@ -89,7 +89,7 @@ module _ {E : Type 0} (eq : E → E → Bool) (zeroElement : E) (p : PointStore 
       made = outcome (refused 10) (withRows (roomMade zeroElement (p .header) (rowsOf p)) p)
 
       laid : Outcome E
-      laid = outcome (kept (indexGiven p) (labelGiven p) (laidHow eq (p .header) (roomMade zeroElement (p .header) (rowsOf p)) (rowOf p point))) (keptAfter eq (roomMade zeroElement (p .header) (rowsOf p)) (rowOf p point) p point code)
+      laid = outcome (kept (indexGiven p) (labelGiven p) (laidHow eq (p .header) (roomMade zeroElement (p .header) (rowsOf p)) (rowOf p point)) (freeLeft p)) (keptAfter eq (roomMade zeroElement (p .header) (rowsOf p)) (rowOf p point) p point code)
 
       choose : (b : Bool) → cond b made laid .answer ≡ refused n → (n ≡ 10) × (cond b made laid .after ≡ withRows (roomMade zeroElement (p .header) (rowsOf p)) p)
       choose true q = (cc, refl)

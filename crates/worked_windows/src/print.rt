@@ -1,4 +1,4 @@
-// Lines of the table: the call, its answer, the free start after it.
+// Lines of the table: the call, its answer (of a kept add with how many indices are left), the free start after it.
 use libc::STDOUT_FILENO;
 use placement::Laid;
 use store_definitions::Added;
@@ -72,6 +72,8 @@ fn kept(k: Kept) {
     }
     let how = k.laid;
     laid(how);
+    text(b", left ");
+    number(k.free_indices);
 }
 
 pub fn added(a: Added) {

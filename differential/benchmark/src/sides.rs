@@ -115,6 +115,7 @@ pub fn nothing_added() -> Added {
         label_index: 0,
         joined: 0,
         place: 0,
+        free_indices: 0,
     }
 }
 

@@ -39,7 +39,8 @@ prototypes! {
         index: &mut u64,
         label_index: &mut u64,
         joined: &mut u64,
-        place: &mut u64
+        place: &mut u64,
+        free_indices: &mut u64
     );
     ps_hold_held(
         held_indices: *mut u16,
@@ -105,6 +106,7 @@ impl LentHold {
                 &mut a.label_index,
                 &mut a.joined,
                 &mut a.place,
+                &mut a.free_indices,
             )
         )
     }

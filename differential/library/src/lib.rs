@@ -32,6 +32,7 @@ mod c {
             ends: *const u16,
             ends_len: usize,
             index: &mut u64,
+            free_indices: &mut u64,
         ) -> u64;
         pub fn ps_manager_release(
             words: *mut u64,
@@ -97,9 +98,15 @@ pub fn manager_change_capacity(words: &mut [u64], starts: &mut [u16], ends: &mut
     unsafe { c::ps_manager_change_capacity(w.0, w.1, s.0, s.1, e.0, e.1, new_capacity) }
 }
 
-pub fn manager_get(words: &mut [u64], starts: &mut [u16], ends: &[u16], index: &mut u64) -> u64 {
+pub fn manager_get(
+    words: &mut [u64],
+    starts: &mut [u16],
+    ends: &[u16],
+    index: &mut u64,
+    free_indices: &mut u64,
+) -> u64 {
     let (w, s, e) = (parts_mut!(words), parts_mut!(starts), parts!(ends));
-    unsafe { c::ps_manager_get(w.0, w.1, s.0, s.1, e.0, e.1, index) }
+    unsafe { c::ps_manager_get(w.0, w.1, s.0, s.1, e.0, e.1, index, free_indices) }
 }
 
 pub fn manager_release(words: &mut [u64], starts: &mut [u16], ends: &mut [u16], index: usize) -> u64 {

@@ -24,7 +24,8 @@ prototypes! {
         index: &mut u64,
         label_index: &mut u64,
         joined: &mut u64,
-        place: &mut u64
+        place: &mut u64,
+        free_indices: &mut u64
     );
     ps_probes_tallies(out: *mut u32, out_len: usize);
 }
@@ -61,6 +62,7 @@ impl Lent {
                 &mut a.label_index,
                 &mut a.joined,
                 &mut a.place,
+                &mut a.free_indices,
             )
         )
     }

@@ -21,7 +21,7 @@ pub struct Lent {
     pub attribute_ends: Vec<u16>,
 }
 
-/// What an add answers: the last four only where it is kept.
+/// What an add answers: the last five only where it is kept.
 #[derive(Clone, Copy, Debug)]
 pub struct Added {
     pub kept: u64,
@@ -29,6 +29,7 @@ pub struct Added {
     pub label_index: u64,
     pub joined: u64,
     pub place: u64,
+    pub free_indices: u64,
 }
 
 /// The numbers and the text that open a store.
@@ -125,7 +126,8 @@ prototypes! {
         index: &mut u64,
         label_index: &mut u64,
         joined: &mut u64,
-        place: &mut u64
+        place: &mut u64,
+        free_indices: &mut u64
     );
     ps_inc(index: usize, label: usize);
     ps_dec(index: usize, label: usize);
@@ -236,6 +238,7 @@ impl Lent {
                 &mut a.label_index,
                 &mut a.joined,
                 &mut a.place,
+                &mut a.free_indices,
             )
         )
     }

@@ -8,7 +8,7 @@ use crate::coverage::Coverage;
 use crate::mutant;
 
 /// What lists on the Rust's domain have to meet.
-const ON_THE_DOMAIN: [&str; 17] = [
+const ON_THE_DOMAIN: [&str; 18] = [
     "lists",
     "calls",
     "new",
@@ -22,6 +22,7 @@ const ON_THE_DOMAIN: [&str; 17] = [
     "get that pops its interval",
     "get that shortens its interval",
     "get with nothing free",
+    "get that leaves nothing free",
     "release that merges at the start",
     "release that merges at the end",
     "release that pushes",
@@ -86,20 +87,21 @@ pub enum Call {
 /// What a caller's lent number holds before a call.
 const UNTOUCHED: u64 = 0x5555_aaaa_5555_aaaa;
 
-/// What a call returned, and what the lent number holds after it.
+/// What a call returned, and what the lent numbers hold after it: its answer and, of a get, how many indices are then free.
 #[derive(Clone, Copy, Debug, PartialEq)]
 pub struct Returned {
     pub value: u64,
     pub answer: u64,
+    pub free_indices: u64,
 }
 
 fn made_by_library(call: Call, m: &mut Memory) -> Returned {
-    let mut answer = UNTOUCHED;
+    let (mut answer, mut free_indices) = (UNTOUCHED, UNTOUCHED);
     let (words, starts, ends) = (&mut m.words[..], &mut m.starts[..], &mut m.ends[..]);
     let value = match call {
         Call::New(size) => library::manager_new(words, starts, ends, size),
         Call::ChangeCapacity(n) => library::manager_change_capacity(words, starts, ends, n),
-        Call::Get => library::manager_get(words, starts, ends, &mut answer),
+        Call::Get => library::manager_get(words, starts, ends, &mut answer, &mut free_indices),
         Call::Release(i) if mutant::is("harness-releases-the-next-index") => {
             library::manager_release(words, starts, ends, i.wrapping_add(1))
         }
@@ -111,7 +113,14 @@ fn made_by_library(call: Call, m: &mut Memory) -> Returned {
     if value != 0 && mutant::is("harness-writes-the-answer-of-a-refused-call") {
         answer = 0;
     }
-    Returned { value, answer }
+    if call == Call::Get && value != 0 && mutant::is("harness-writes-the-figure-of-a-refused-get") {
+        free_indices = 0;
+    }
+    Returned {
+        value,
+        answer,
+        free_indices,
+    }
 }
 
 /// The faults that the model and the library share, sown after an accepted get.
@@ -122,6 +131,9 @@ fn sow_in_both(call: Call, returned: &mut Returned, m: &mut Memory) {
     let past = m.words[1] as usize;
     if mutant::is("both-give-the-next-index") {
         returned.answer += 1;
+    }
+    if mutant::is("both-tell-one-free-index-more-of-a-get") {
+        returned.free_indices += 1;
     }
     if mutant::is("both-clear-a-popped-entry") && past < m.starts.len() {
         m.starts[past] = 0;
@@ -153,7 +165,8 @@ fn held_to_model(call: Call, memory: &mut Memory) -> Result<Returned, String> {
             ("document 01", owed, &expected),
         ));
     }
-    if got.value != 0 && (*memory != before || got.answer != UNTOUCHED) {
+    let answers = [got.answer, got.free_indices];
+    if got.value != 0 && (*memory != before || answers != [UNTOUCHED; 2]) {
         return Err(format!("a refused call wrote: {call:?}\n    on {before:?}"));
     }
     Ok(got)

@@ -5,24 +5,27 @@ use std::env;
 use std::sync::OnceLock;
 
 /// Sown in the interval manager's part.
-pub const OF_THE_MANAGER: [&str; 13] = [
+pub const OF_THE_MANAGER: [&str; 16] = [
     "release-merges-at-the-other-end",
     "get-leaves-an-emptied-interval",
+    "get-tells-how-many-were-free-before-it",
     "change-pushes-one-index-too-few",
     "change-refuses-1-before-13",
     "an-index-in-two-intervals-is-allowed",
     "a-start-above-its-end-is-allowed",
     "release-of-a-free-index-is-taken",
     "harness-writes-the-answer-of-a-refused-call",
+    "harness-writes-the-figure-of-a-refused-get",
     "harness-releases-the-next-index",
     "harness-never-grows",
     "both-give-the-next-index",
+    "both-tell-one-free-index-more-of-a-get",
     "both-clear-a-popped-entry",
     "both-write-an-entry-never-in-use",
 ];
 
 /// Sown in the store's part.
-pub const OF_THE_STORE: [&str; 51] = [
+pub const OF_THE_STORE: [&str; 58] = [
     "compaction-leaves-old-places",
     "no-zeros-before-a-block",
     "add-never-grows-the-floats",
@@ -30,6 +33,10 @@ pub const OF_THE_STORE: [&str; 51] = [
     "growth-keeps-the-lent-floats",
     "growth-by-a-fifth-alone",
     "floats-grow-by-one-float",
+    "figure-without-the-new-point",
+    "figure-of-the-capacity",
+    "figure-of-the-table-before-growth",
+    "figure-of-the-label-indices",
     "joined-by-float-equality",
     "code-24-is-taken",
     "copy-never-turns",
@@ -63,6 +70,8 @@ pub const OF_THE_STORE: [&str; 51] = [
     "harness-writes-to-a-text-too-short",
     "harness-swaps-index-and-label",
     "harness-writes-the-answer-of-a-refused-store-call",
+    "harness-writes-the-figure-of-a-refused-add",
+    "harness-writes-the-figure-of-a-waiting-add",
     "harness-never-compacts",
     "harness-never-rotates",
     "harness-knows-no-special-floats",
@@ -70,6 +79,7 @@ pub const OF_THE_STORE: [&str; 51] = [
     "harness-compares-nans-with-the-rust",
     "harness-leaves-the-rust-out",
     "both-give-the-wrong-place",
+    "both-tell-one-free-index-more",
     "both-write-a-float-past-the-free-start",
     "both-clear-floats-after-compaction",
     "both-clear-the-code-of-a-dead-label",
@@ -77,23 +87,26 @@ pub const OF_THE_STORE: [&str; 51] = [
 ];
 
 /// Sown in the hold's part.
-pub const OF_THE_HOLD: [&str; 12] = [
+pub const OF_THE_HOLD: [&str; 15] = [
     "hold-gives-up-before-the-add",
     "hold-gives-up-the-newest",
     "hold-gives-up-on-waiting",
+    "hold-figure-after-giving-up",
     "hold-takes-the-width-of-the-capacity",
     "hold-takes-a-count-of-2",
     "hold-takes-a-point-twice",
     "hold-takes-a-label-twice",
     "hold-refuses-1-before-15",
     "harness-never-gives-up",
+    "harness-writes-the-figure-of-a-refused-hold-add",
     "harness-leaves-the-rust-out-of-the-hold",
     "both-hold-in-another-order",
+    "both-tell-the-figure-after-giving-up",
     "both-clear-the-floats-of-a-point-given-up",
 ];
 
 /// Sown in the product's part.
-pub const OF_THE_PROBES: [&str; 11] = [
+pub const OF_THE_PROBES: [&str; 13] = [
     "probes-repeat-the-first-float",
     "probes-a-refused-set-tallies",
     "probes-a-waiting-set-is-not-tallied",
@@ -101,7 +114,9 @@ pub const OF_THE_PROBES: [&str; 11] = [
     "probes-refuse-11-before-3",
     "probes-take-a-tally-above-the-sequence",
     "probes-take-another-base",
+    "probes-figure-without-the-new-window",
     "harness-knows-no-absent-reading",
+    "harness-writes-the-figure-of-a-waiting-set",
     "harness-leaves-the-rust-out-of-the-probes",
     "both-tally-absent-readings",
     "both-repeat-a-zero",

@@ -53,10 +53,19 @@ fn main() -> Result<()> {
         print!("{:?}: ", temperatures);
         match latest.add(&temperatures, reason)? {
             Added::Waiting => println!("waiting for a full window"),
-            Added::Kept { index, laid, .. } => {
+            Added::Kept {
+                index,
+                laid,
+                free_indices,
+                ..
+            } => {
                 let window = latest.store().copy(index)?;
                 let lamp = mean_of_lamp(&window);
-                println!("fan at {}%, {}", fan_speed(lamp), laid_text(index, laid));
+                println!(
+                    "fan at {}%, {}, {free_indices} indices left",
+                    fan_speed(lamp),
+                    laid_text(index, laid)
+                );
                 if lamp >= HOT {
                     let (index, label, _) = report.add(&window, reason)?;
                     hot.push((index, label));

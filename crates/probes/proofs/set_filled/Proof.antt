@@ -18,7 +18,7 @@ filled-words-requires c κs =
     let a = c .before .before .before .before .before .before .before .before .before .before .before .before .before .before .before .before .before .before .before .args in
     let m : Memory ℕ = held (a .store) (a .last-known-shingle) (a .reference-count) (a .location) (a .index-starts) (a .index-ends) (a .labels) (a .label-attributes) (a .label-count) (a .label-starts) (a .label-ends) (a .attributes) (a .attribute-count) (a .attribute-starts) (a .attribute-ends) in
     let p = pointProbes (a .p) m in
-    (window-enough wordsEqual 0 p (a .kinds .now) (a .words .now) (a .label) (c .before .before .before .before .before .before .before .before .before .before .before .before .before .before .before .before .before .before .before .pre .0), c .before .before .before .before .before .before .before .before .before .before .before .before .before .before .before .before .before .before .before .pre .1)
+    (window-enough wordsEqual 0 p (a .kinds .now) (a .words .now) (a .label) (c .before .before .before .before .before .before .before .before .before .before .before .before .before .before .before .before .before .before .before .pre .0), (c .before .before .before .before .before .before .before .before .before .before .before .before .before .before .before .before .before .before .before .pre .1 .0, c .before .before .before .before .before .before .before .before .before .before .before .before .before .before .before .before .before .before .before .pre .1 .1 .0))
 
 slice-aggregate-add-unchecked : tie.Need-slice-aggregate-add-unchecked
 slice-aggregate-add-unchecked c = search needs
@@ -28,7 +28,7 @@ add-unchecked-requires c κs =
     let a = c .before .before .before .before .before .before .before .before .before .before .before .before .before .before .before .before .before .before .before .before .before .before .before .before .before .before .before .before .before .before .before .before .before .before .args in
     let m : Memory ℕ = held (a .store) (a .last-known-shingle) (a .reference-count) (a .location) (a .index-starts) (a .index-ends) (a .labels) (a .label-attributes) (a .label-count) (a .label-starts) (a .label-ends) (a .attributes) (a .attribute-count) (a .attribute-starts) (a .attribute-ends) in
     let p = pointProbes (a .p) m in
-    probes-sound p (c .before .before .before .before .before .before .before .before .before .before .before .before .before .before .before .before .before .before .before .before .before .before .before .before .before .before .before .before .before .before .before .before .before .before .pre .0) .well
+    (probes-sound p (c .before .before .before .before .before .before .before .before .before .before .before .before .before .before .before .before .before .before .before .before .before .before .before .before .before .before .before .before .before .before .before .before .before .before .pre .0) .well, c .before .before .before .before .before .before .before .before .before .before .before .before .before .before .before .before .before .before .before .before .before .before .before .before .before .before .before .before .before .before .before .before .before .before .pre .1 .1 .1)
 
 is-accepted-requires : tie.Need-is-accepted-requires
 is-accepted-requires c κs = tt
@@ -88,7 +88,7 @@ returns c =
     let p = pointProbes (a .p) m in
     let u = c .before .before .before .before .before .before .before .before .before .before .before .before .before .before .before .before .before .before .before .before .before .before .before .before .before .before .before .before .before .before .add-unchecked in
     let q = pointStore (u .result .store) (record { store = u .last .1 .0; lastKnownShingle = u .last .1 .1 .0; referenceCount = u .last .1 .1 .1 .0; location = u .last .1 .1 .1 .1 .0; indexStarts = u .last .1 .1 .1 .1 .1 .0; indexEnds = u .last .1 .1 .1 .1 .1 .1 .0; labels = u .last .1 .1 .1 .1 .1 .1 .1 .0; labelAttributes = u .last .1 .1 .1 .1 .1 .1 .1 .1 .0; labelCount = u .last .1 .1 .1 .1 .1 .1 .1 .1 .1 .0; labelStarts = u .last .1 .1 .1 .1 .1 .1 .1 .1 .1 .1 .0; labelEnds = a .label-ends .now; attributes = u .last .1 .1 .1 .1 .1 .1 .1 .1 .1 .1 .1 .1 .0; attributeCount = u .last .1 .1 .1 .1 .1 .1 .1 .1 .1 .1 .1 .1 .1 .0; attributeStarts = u .last .1 .1 .1 .1 .1 .1 .1 .1 .1 .1 .1 .1 .1 .1 .0; attributeEnds = a .attribute-ends .now }) in
-    set-done wordsEqual 0 p (a .kinds .now) (a .words .now) (a .label) (c .before .before .before .before .before .before .before .before .before .before .before .before .before .before .before .before .before .before .before .before .before .before .before .before .before .before .before .before .before .before .before .before .before .before .before .before .before .before .before .before .before .before .before .before .before .before .before .before .before .before .before .before .before .before .before .before .before .before .before .before .before .before .before .before .before .pre .0) (addedMeans (u .result .answer)) q (add-of wordsEqual 0 p (a .kinds .now) (a .words .now) (a .label) (c .before .before .before .before .before .before .before .before .before .before .before .before .before .before .before .before .before .before .before .before .before .before .before .before .before .before .before .before .before .before .before .before .before .before .before .before .before .before .before .before .before .before .before .before .before .filled-words .result) (c .before .before .before .before .before .before .before .before .before .before .before .before .before .before .before .before .before .before .before .before .before .before .before .before .before .before .before .before .before .before .before .before .before .before .before .before .before .before .before .before .before .before .before .before .before .filled-words .ensures) (outcome (addedMeans (u .result .answer)) q) (u .ensures)) (c .before .before .before .before .before .before .before .before .before .before .before .before .before .before .before .before .before .before .before .before .before .before .before .before .before .before .before .before .before .before .before .before .before .before .before .before .before .before .before .before .before .before .before .before .before .before .before .before .before .before .before .before .before .before .before .before .before .before .before .before .before .before .before .before .before .pre .1 .0 ∙ sym (c .before .before .before .before .before .before .before .before .before .before .before .before .before .before .before .before .before .before .before .before .before .before .before .before .before .before .before .before .before .before .before .before .before .before .before .before .before .before .before .before .before .before .before .before .before .before .before .before .before .before .before .before .before .before .before .before .before .before .before .before .before .before .before .before .before .pre .1 .1)) (c .before .before .is-accepted .result) (c .before .before .is-accepted .ensures) (c .tallies-after .result) (c .tallies-after .ensures)
+    set-done wordsEqual 0 p (a .kinds .now) (a .words .now) (a .label) (c .before .before .before .before .before .before .before .before .before .before .before .before .before .before .before .before .before .before .before .before .before .before .before .before .before .before .before .before .before .before .before .before .before .before .before .before .before .before .before .before .before .before .before .before .before .before .before .before .before .before .before .before .before .before .before .before .before .before .before .before .before .before .before .before .before .pre .0) (addedMeans (u .result .answer)) q (add-of wordsEqual 0 p (a .kinds .now) (a .words .now) (a .label) (c .before .before .before .before .before .before .before .before .before .before .before .before .before .before .before .before .before .before .before .before .before .before .before .before .before .before .before .before .before .before .before .before .before .before .before .before .before .before .before .before .before .before .before .before .before .filled-words .result) (c .before .before .before .before .before .before .before .before .before .before .before .before .before .before .before .before .before .before .before .before .before .before .before .before .before .before .before .before .before .before .before .before .before .before .before .before .before .before .before .before .before .before .before .before .before .filled-words .ensures) (outcome (addedMeans (u .result .answer)) q) (u .ensures)) (c .before .before .before .before .before .before .before .before .before .before .before .before .before .before .before .before .before .before .before .before .before .before .before .before .before .before .before .before .before .before .before .before .before .before .before .before .before .before .before .before .before .before .before .before .before .before .before .before .before .before .before .before .before .before .before .before .before .before .before .before .before .before .before .before .before .pre .1 .0 ∙ sym (c .before .before .before .before .before .before .before .before .before .before .before .before .before .before .before .before .before .before .before .before .before .before .before .before .before .before .before .before .before .before .before .before .before .before .before .before .before .before .before .before .before .before .before .before .before .before .before .before .before .before .before .before .before .before .before .before .before .before .before .before .before .before .before .before .before .pre .1 .1 .0)) (c .before .before .is-accepted .result) (c .before .before .is-accepted .ensures) (c .tallies-after .result) (c .tallies-after .ensures)
 
 pub set-filled-spec : {M : Type 1} → statement M
 set-filled-spec = tie.close (tie.spec filled-words-requires slice-aggregate-add-unchecked add-unchecked-requires is-accepted-requires tallies-after-requires same-length same-length-2 same-length-3 same-length-4 same-length-5 same-length-6 same-length-7 same-length-8 same-length-9 same-length-10 same-length-11 same-length-12 same-length-13 returns)

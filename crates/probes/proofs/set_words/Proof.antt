@@ -60,7 +60,7 @@ returns c =
     let a = c .before .before .before .before .before .before .before .before .before .before .before .before .before .before .before .before .before .before .before .before .before .before .before .before .before .before .before .before .before .before .before .before .args in
     let m : Memory ℕ = held (a .store) (a .last-known-shingle) (a .reference-count) (a .location) (a .index-starts) (a .index-ends) (a .labels) (a .label-attributes) (a .label-count) (a .label-starts) (a .label-ends) (a .attributes) (a .attribute-count) (a .attribute-starts) (a .attribute-ends) in
     let p = pointProbes (a .p) m in
-    words-ill wordsEqual 0 p (a .kinds .now) (a .words .now) (a .label) (sym (c .before .check-probes .ensures) ∙ not-true _ (c .if1 .taken))
+    words-ill wordsEqual 0 p (a .kinds .now) (a .words .now) (a .label) (sym (c .before .check-probes .ensures .0) ∙ not-true _ (c .if1 .taken))
 
 set-decision-requires : tie.Need-set-decision-requires
 set-decision-requires c κs = tt
@@ -73,10 +73,11 @@ enum-told c = search needs
 
 set-filled-requires : tie.Need-set-filled-requires
 set-filled-requires c κs =
-    let a = c .before .before .before .before .before .before .before .before .before .before .before .before .before .before .before .before .before .before .before .before .before .before .before .before .before .before .before .before .before .before .before .before .before .before .before .before .before .before .before .before .before .before .before .before .before .before .before .before .before .args in
+    let a = c .before .before .before .before .before .before .before .before .before .before .before .before .before .before .before .before .before .before .before .before .before .before .before .before .before .before .before .before .before .before .before .before .before .before .before .before .before .before .before .before .before .before .before .before .before .before .before .before .before .before .args in
     let m : Memory ℕ = held (a .store) (a .last-known-shingle) (a .reference-count) (a .location) (a .index-starts) (a .index-ends) (a .labels) (a .label-attributes) (a .label-count) (a .label-starts) (a .label-ends) (a .attributes) (a .attribute-count) (a .attribute-starts) (a .attribute-ends) in
     let p = pointProbes (a .p) m in
-    ((sym (c .before .before .before .before .before .before .before .before .before .before .before .before .before .before .before .before .before .before .check-probes .ensures) ∙ not-false _ (c .before .before .before .before .before .before .before .before .before .before .before .before .before .before .before .before .before .if1 .left)), eight-each wordsEqual 0 p (a .kinds .now) (a .words .now) (a .label) (sym (c .before .before .before .before .before .before .before .before .before .before .before .before .before .before .before .set-decision .ensures) ∙ ap decisionMeans (c .before .before .before .before .before .before .before .before .before .before .before .before .before .enum-told .given .1)))
+    let eight = eight-each wordsEqual 0 p (a .kinds .now) (a .words .now) (a .label) (sym (c .before .before .before .before .before .before .before .before .before .before .before .before .before .before .before .set-decision .ensures) ∙ ap decisionMeans (c .before .before .before .before .before .before .before .before .before .before .before .before .before .enum-told .given .1)) in
+    (sym (c .before .before .before .before .before .before .before .before .before .before .before .before .before .before .before .before .before .before .before .check-probes .ensures .0) ∙ not-false _ (c .before .before .before .before .before .before .before .before .before .before .before .before .before .before .before .before .before .before .if1 .left), (eight .0, (eight .1, c .before .before .before .before .before .before .before .before .before .before .before .before .before .before .before .before .before .before .before .check-probes .ensures .1 (not-false _ (c .before .before .before .before .before .before .before .before .before .before .before .before .before .before .before .before .before .before .if1 .left)))))
 
 same-length-14 : tie.Need-same-length-14
 same-length-14 c = refl
@@ -119,10 +120,10 @@ same-length-26 c = refl
 
 returns-2 : tie.Need-returns-2
 returns-2 c =
-    let a = c .before .before .before .before .before .before .before .before .before .before .before .before .before .before .before .before .before .before .before .before .before .before .before .before .before .before .before .before .before .before .before .before .before .before .before .before .before .args in
+    let a = c .before .before .before .before .before .before .before .before .before .before .before .before .before .before .before .before .before .before .before .before .before .before .before .before .before .before .before .before .before .before .before .before .before .before .before .before .before .before .args in
     let m : Memory ℕ = held (a .store) (a .last-known-shingle) (a .reference-count) (a .location) (a .index-starts) (a .index-ends) (a .labels) (a .label-attributes) (a .label-count) (a .label-starts) (a .label-ends) (a .attributes) (a .attribute-count) (a .attribute-starts) (a .attribute-ends) in
     let p = pointProbes (a .p) m in
-    words-refused wordsEqual 0 p (a .kinds .now) (a .words .now) (a .label) (sym (c .before .before .before .before .before .before .check-probes .ensures) ∙ not-false _ (c .before .before .before .before .before .if1 .left)) (number (c .before .d .given .0 .0)) (sym (c .before .before .before .set-decision .ensures) ∙ ap decisionMeans (c .before .d .given .1))
+    words-refused wordsEqual 0 p (a .kinds .now) (a .words .now) (a .label) (sym (c .before .before .before .before .before .before .before .check-probes .ensures .0) ∙ not-false _ (c .before .before .before .before .before .before .if1 .left)) (number (c .before .d .given .0 .0)) (sym (c .before .before .before .set-decision .ensures) ∙ ap decisionMeans (c .before .d .given .1))
 
 same-length-27 : tie.Need-same-length-27
 same-length-27 c = c .before .before .before .before .before .before .before .before .before .before .before .before .before .before .before .before .before .before .before .before .before .before .before .before .before .before .set-filled .kept .1 .0
@@ -165,10 +166,10 @@ same-length-39 c = c .before .before .before .before .before .before .before .be
 
 returns-3 : tie.Need-returns-3
 returns-3 c =
-    let a = c .before .before .before .before .before .before .before .before .before .before .before .before .before .before .before .before .before .before .before .before .before .before .before .before .before .before .before .before .before .before .before .before .before .before .before .before .before .before .before .before .before .before .before .before .before .before .before .before .before .before .before .before .before .before .before .before .before .before .before .before .before .before .before .before .before .before .before .before .before .before .before .before .before .before .before .before .args in
+    let a = c .before .before .before .before .before .before .before .before .before .before .before .before .before .before .before .before .before .before .before .before .before .before .before .before .before .before .before .before .before .before .before .before .before .before .before .before .before .before .before .before .before .before .before .before .before .before .before .before .before .before .before .before .before .before .before .before .before .before .before .before .before .before .before .before .before .before .before .before .before .before .before .before .before .before .before .before .before .args in
     let m : Memory ℕ = held (a .store) (a .last-known-shingle) (a .reference-count) (a .location) (a .index-starts) (a .index-ends) (a .labels) (a .label-attributes) (a .label-count) (a .label-starts) (a .label-ends) (a .attributes) (a .attribute-count) (a .attribute-starts) (a .attribute-ends) in
     let p = pointProbes (a .p) m in
-    c .before .before .before .before .before .before .before .before .before .before .before .before .before .before .before .before .before .before .before .before .before .before .before .before .before .before .set-filled .ensures ∙ words-go wordsEqual 0 p (a .kinds .now) (a .words .now) (a .label) (sym (c .before .before .before .before .before .before .before .before .before .before .before .before .before .before .before .before .before .before .before .before .before .before .before .before .before .before .before .before .before .before .before .before .before .before .before .before .before .before .before .before .before .before .before .before .before .check-probes .ensures) ∙ not-false _ (c .before .before .before .before .before .before .before .before .before .before .before .before .before .before .before .before .before .before .before .before .before .before .before .before .before .before .before .before .before .before .before .before .before .before .before .before .before .before .before .before .before .before .before .before .if1 .left)) (sym (c .before .before .before .before .before .before .before .before .before .before .before .before .before .before .before .before .before .before .before .before .before .before .before .before .before .before .before .before .before .before .before .before .before .before .before .before .before .before .before .before .before .before .set-decision .ensures) ∙ ap decisionMeans (c .before .before .before .before .before .before .before .before .before .before .before .before .before .before .before .before .before .before .before .before .before .before .before .before .before .before .before .before .before .before .before .before .before .before .before .before .before .before .before .before .enum-told .given .1))
+    c .before .before .before .before .before .before .before .before .before .before .before .before .before .before .before .before .before .before .before .before .before .before .before .before .before .before .set-filled .ensures ∙ words-go wordsEqual 0 p (a .kinds .now) (a .words .now) (a .label) (sym (c .before .before .before .before .before .before .before .before .before .before .before .before .before .before .before .before .before .before .before .before .before .before .before .before .before .before .before .before .before .before .before .before .before .before .before .before .before .before .before .before .before .before .before .before .before .before .check-probes .ensures .0) ∙ not-false _ (c .before .before .before .before .before .before .before .before .before .before .before .before .before .before .before .before .before .before .before .before .before .before .before .before .before .before .before .before .before .before .before .before .before .before .before .before .before .before .before .before .before .before .before .before .before .if1 .left)) (sym (c .before .before .before .before .before .before .before .before .before .before .before .before .before .before .before .before .before .before .before .before .before .before .before .before .before .before .before .before .before .before .before .before .before .before .before .before .before .before .before .before .before .before .set-decision .ensures) ∙ ap decisionMeans (c .before .before .before .before .before .before .before .before .before .before .before .before .before .before .before .before .before .before .before .before .before .before .before .before .before .before .before .before .before .before .before .before .before .before .before .before .before .before .before .before .enum-told .given .1))
 
 pub set-words-spec : {M : Type 1} → statement M
 set-words-spec = tie.close (tie.spec check-probes-requires same-length same-length-2 same-length-3 same-length-4 same-length-5 same-length-6 same-length-7 same-length-8 same-length-9 same-length-10 same-length-11 same-length-12 same-length-13 returns set-decision-requires enum-known-d enum-told set-filled-requires same-length-14 same-length-15 same-length-16 same-length-17 same-length-18 same-length-19 same-length-20 same-length-21 same-length-22 same-length-23 same-length-24 same-length-25 same-length-26 returns-2 same-length-27 same-length-28 same-length-29 same-length-30 same-length-31 same-length-32 same-length-33 same-length-34 same-length-35 same-length-36 same-length-37 same-length-38 same-length-39 returns-3)

@@ -12,13 +12,13 @@ add-decision-requires : tie.Need-add-decision-requires
 add-decision-requires c κs = let a = c .before .before .before .before .before .before .before .before .before .before .before .before .before .before .before .before .args in
     let m : Memory ℕ = record { store = a .store .now; lastKnownShingle = a .last-known-shingle .now; referenceCount = a .reference-count .now; location = a .location .now; indexStarts = a .index-starts .now; indexEnds = a .index-ends .now; labels = a .labels .now; labelAttributes = a .label-attributes .now; labelCount = a .label-count .now; labelStarts = a .label-starts .now; labelEnds = a .label-ends .now; attributes = a .attributes .now; attributeCount = a .attribute-count .now; attributeStarts = a .attribute-starts .now; attributeEnds = a .attribute-ends .now } in
     let p = pointStore (a .s) m in
-    decision-asks p (c .before .before .before .before .before .before .before .before .before .before .before .before .before .before .before .before .pre)
+    decision-asks p (c .before .before .before .before .before .before .before .before .before .before .before .before .before .before .before .before .pre .0)
 
 act-requires : tie.Need-act-requires
 act-requires c κs = let a = c .before .before .before .before .before .before .before .before .before .before .before .before .before .before .before .before .before .before .before .before .before .before .before .before .before .before .before .before .before .before .args in
     let m : Memory ℕ = record { store = a .store .now; lastKnownShingle = a .last-known-shingle .now; referenceCount = a .reference-count .now; location = a .location .now; indexStarts = a .index-starts .now; indexEnds = a .index-ends .now; labels = a .labels .now; labelAttributes = a .label-attributes .now; labelCount = a .label-count .now; labelStarts = a .label-starts .now; labelEnds = a .label-ends .now; attributes = a .attributes .now; attributeCount = a .attribute-count .now; attributeStarts = a .attribute-starts .now; attributeEnds = a .attribute-ends .now } in
     let p = pointStore (a .s) m in
-    c .before .before .before .before .before .before .before .before .before .before .before .before .before .add-decision .ensures ∙ sym (asked-well p (a .point .now) (a .label) (c .before .before .before .before .before .before .before .before .before .before .before .before .before .before .before .before .before .before .before .before .before .before .before .before .before .before .before .before .before .before .pre))
+    (c .before .before .before .before .before .before .before .before .before .before .before .before .before .add-decision .ensures ∙ sym (asked-well p (a .point .now) (a .label) (c .before .before .before .before .before .before .before .before .before .before .before .before .before .before .before .before .before .before .before .before .before .before .before .before .before .before .before .before .before .before .pre .0)), c .before .before .before .before .before .before .before .before .before .before .before .before .before .before .before .before .before .before .before .before .before .before .before .before .before .before .before .before .before .before .pre .1)
 
 same-length : tie.Need-same-length
 same-length c = c .before .before .before .before .before .before .before .before .before .before .before .before .before .before .before .before .before .before .before .before .before .before .before .before .before .before .act .kept .1 .1 .0
@@ -66,7 +66,7 @@ returns c = let a = c .before .before .before .before .before .before .before .b
     let ac = c .before .before .before .before .before .before .before .before .before .before .before .before .before .before .before .before .before .before .before .before .before .before .before .before .before .before .act in
     let de = c .before .before .before .before .before .before .before .before .before .before .before .before .before .before .before .before .before .before .before .before .before .before .before .before .before .before .before .before .before .before .before .before .before .before .before .before .before .before .before .before .add-decision in
     let m′ : Memory ℕ = record { store = ac .last .1 .1 .0; lastKnownShingle = ac .last .1 .1 .1 .0; referenceCount = ac .last .1 .1 .1 .1 .0; location = ac .last .1 .1 .1 .1 .1 .0; indexStarts = ac .last .1 .1 .1 .1 .1 .1 .0; indexEnds = ac .last .1 .1 .1 .1 .1 .1 .1 .0; labels = ac .last .1 .1 .1 .1 .1 .1 .1 .1 .0; labelAttributes = ac .last .1 .1 .1 .1 .1 .1 .1 .1 .1 .0; labelCount = ac .last .1 .1 .1 .1 .1 .1 .1 .1 .1 .1 .0; labelStarts = ac .last .1 .1 .1 .1 .1 .1 .1 .1 .1 .1 .1 .0; labelEnds = a .label-ends .now; attributes = ac .last .1 .1 .1 .1 .1 .1 .1 .1 .1 .1 .1 .1 .1 .0; attributeCount = ac .last .1 .1 .1 .1 .1 .1 .1 .1 .1 .1 .1 .1 .1 .1 .0; attributeStarts = ac .last .1 .1 .1 .1 .1 .1 .1 .1 .1 .1 .1 .1 .1 .1 .1 .0; attributeEnds = a .attribute-ends .now } in
-    added (de .result) p (a .point .now) (a .label) (outcome (addedMeans (ac .result .answer)) (pointStore (ac .result .store) m′)) (de .ensures ∙ sym (asked-well p (a .point .now) (a .label) (c .before .before .before .before .before .before .before .before .before .before .before .before .before .before .before .before .before .before .before .before .before .before .before .before .before .before .before .before .before .before .before .before .before .before .before .before .before .before .before .before .before .before .before .before .before .before .before .before .before .before .before .before .before .before .before .before .before .pre))) (ac .ensures)
+    added (de .result) p (a .point .now) (a .label) (outcome (addedMeans (ac .result .answer)) (pointStore (ac .result .store) m′)) (de .ensures ∙ sym (asked-well p (a .point .now) (a .label) (c .before .before .before .before .before .before .before .before .before .before .before .before .before .before .before .before .before .before .before .before .before .before .before .before .before .before .before .before .before .before .before .before .before .before .before .before .before .before .before .before .before .before .before .before .before .before .before .before .before .before .before .before .before .before .before .before .before .pre .0))) (ac .ensures)
 
 pub add-unchecked-spec : {M : Type 1} → statement M
 add-unchecked-spec = tie.close (tie.spec add-decision-requires act-requires same-length same-length-2 same-length-3 same-length-4 same-length-5 same-length-6 same-length-7 same-length-8 same-length-9 same-length-10 same-length-11 same-length-12 same-length-13 returns)

@@ -1,5 +1,5 @@
 //! The hold's calls, and what a caller has of one afterwards.
-use crate::store::call::{Call, Returned, UNTOUCHED};
+use crate::store::call::{Call, Returned, NUMBERS, UNTOUCHED};
 use library::store::Opening;
 
 #[derive(Clone, Debug, PartialEq)]
@@ -46,7 +46,7 @@ impl HoldReturned {
 
     /// Whether no answer was written.
     pub fn is_untouched(&self) -> bool {
-        self.of_store.numbers == [UNTOUCHED; 5] && self.held.iter().all(|i| *i == UNTOUCHED_INDEX)
+        self.of_store.numbers == [UNTOUCHED; NUMBERS] && self.held.iter().all(|i| *i == UNTOUCHED_INDEX)
     }
 
     /// Index and label index of a kept add.

@@ -3,7 +3,8 @@ use super::call::{HoldCall, HoldReturned};
 use super::memory::*;
 use super::well_formed::{is_well_formed_hold, width_is_wrong};
 use crate::mutant;
-use crate::store::call::Call;
+use crate::store::call::{Call, FIGURE};
+use crate::store::memory::{live_indices, word, TABLE_LENGTH};
 use crate::store::model::{self, Met};
 use crate::store::well_formed::outside_the_bounds;
 use library::hold::LentHold;
@@ -84,8 +85,16 @@ fn add(h: &mut LentHold, point: &[u32], label: usize, r: &mut HoldReturned, met:
         let value = model::made(&Call::Dec(index, label_index), &mut h.store, met).value;
         r.of_store.value = value;
         met.push(GAVE_UP);
+        if mutant::is("hold-figure-after-giving-up") {
+            r.of_store.numbers[FIGURE] = free_now(h);
+        }
     }
     write(h, &list);
+}
+
+/// How many indices of the store inside are free.
+pub fn free_now(h: &LentHold) -> u64 {
+    (word(&h.store, TABLE_LENGTH) - live_indices(&h.store).len()) as u64
 }
 
 fn give_up(h: &mut LentHold, which: usize, met: &mut Met) {

@@ -4,10 +4,10 @@ use super::call::{HoldCall, HoldReturned};
 use super::kinds;
 use super::library_side;
 use super::memory::*;
-use super::model::{self, GAVE_UP};
+use super::model::{self, free_now, GAVE_UP};
 use crate::coverage::Coverage;
 use crate::mutant;
-use crate::store::call::Call;
+use crate::store::call::{Call, FIGURE};
 use crate::store::memory::*;
 use crate::store::model::Met;
 use crate::store::model_rows::PAST_A_FIFTH;
@@ -90,8 +90,8 @@ impl HoldSides {
             owed.of_store = owed.of_store.with_one_nan(call);
             got.of_store = got.of_store.with_one_nan(call);
         }
-        sow_in_both(call, &owed, &mut self.model);
-        sow_in_both(call, &got, &mut self.library);
+        sow_in_both(call, &mut owed, &mut self.model);
+        sow_in_both(call, &mut got, &mut self.library);
         if got != owed || self.library != self.model {
             return Err(format!(
                 "{call:?}\n    on {:?}\nlibrary: {got:?}\n    leaves {:?}\nthe model: {owed:?}\n    leaves {:?}",
@@ -274,7 +274,7 @@ impl HoldSides {
 }
 
 /// The faults that the model and the library share: the Rust, or the answers alone, show them.
-fn sow_in_both(call: &HoldCall, got: &HoldReturned, h: &mut LentHold) {
+fn sow_in_both(call: &HoldCall, got: &mut HoldReturned, h: &mut LentHold) {
     if !matches!(call, HoldCall::Add { .. }) || got.kept().is_none() {
         return;
     }
@@ -284,6 +284,9 @@ fn sow_in_both(call: &HoldCall, got: &HoldReturned, h: &mut LentHold) {
         if has_labels(h) {
             h.held_labels.swap(0, 1);
         }
+    }
+    if mutant::is("both-tell-the-figure-after-giving-up") {
+        got.of_store.numbers[FIGURE] = free_now(h);
     }
     if mutant::is("both-clear-the-floats-of-a-point-given-up") {
         clear_dead_floats(&mut h.store);

@@ -18,9 +18,14 @@ struct Pair {
     in_use: Vec<usize>,
 }
 
-/// What the Rust answers, as the library would return it. Its one error is a get with nothing free.
+/// What the Rust answers, as the library would return it. Its one error is a get with nothing free. How many indices are free
+/// after a get it does not say: that is its capacity less its `used`.
 fn rust_answer(rust: &mut IntervalStoreManager<usize>, call: Call) -> Returned {
-    let answered = |answer: u64| Returned { value: 0, answer };
+    let answered = |answer: u64| Returned {
+        value: 0,
+        answer,
+        free_indices: UNTOUCHED,
+    };
     match call {
         Call::New(size) => {
             *rust = IntervalStoreManager::new(size);
@@ -31,10 +36,13 @@ fn rust_answer(rust: &mut IntervalStoreManager<usize>, call: Call) -> Returned {
             answered(UNTOUCHED)
         }
         Call::Get => match rust.get() {
-            Ok(index) => answered(index as u64),
+            Ok(index) => Returned {
+                free_indices: (rust.get_capacity() - rust.used()) as u64,
+                ..answered(index as u64)
+            },
             Err(_) => Returned {
                 value: 9,
-                answer: UNTOUCHED,
+                ..answered(UNTOUCHED)
             },
         },
         Call::Release(i) => {
@@ -69,6 +77,9 @@ fn meet_call(
                 (_, true) => "get that pops its interval",
                 (_, false) => "get that shortens its interval",
             });
+            if was > 0 && is == 0 {
+                coverage.meet("get that leaves nothing free");
+            }
         }
         Call::Release(i) => {
             coverage.meet("release");

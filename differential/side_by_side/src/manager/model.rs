@@ -111,13 +111,14 @@ fn change_capacity(m: &mut Memory, new: u64) -> u64 {
     0
 }
 
-fn get(m: &mut Memory, answer: &mut u64) -> u64 {
+fn get(m: &mut Memory, answer: &mut u64, free_indices: &mut u64) -> u64 {
     if !broken(m).is_empty() {
         return 1;
     }
     if m.in_use() == 0 {
         return 9;
     }
+    let free_before = free_number(m);
     let top = m.in_use() - 1;
     *answer = m.starts[top] as u64;
     if m.starts[top] < m.ends[top] || mutant::is("get-leaves-an-emptied-interval") {
@@ -125,6 +126,11 @@ fn get(m: &mut Memory, answer: &mut u64) -> u64 {
     } else {
         m.words[1] -= 1;
     }
+    *free_indices = if mutant::is("get-tells-how-many-were-free-before-it") {
+        free_before
+    } else {
+        free_number(m)
+    };
     0
 }
 
@@ -161,25 +167,34 @@ fn reading(m: &Memory, answer: &mut u64, value: impl Fn(&Memory) -> u64) -> u64 
     0
 }
 
-fn used(m: &Memory) -> u64 {
+/// How many indices are free.
+fn free_number(m: &Memory) -> u64 {
     let mut free = vec![false; m.capacity() as usize];
     for (s, e) in m.intervals() {
         free[s as usize..=e as usize].fill(true);
     }
-    free.iter().filter(|is_free| !**is_free).count() as u64
+    free.iter().filter(|is_free| **is_free).count() as u64
+}
+
+fn used(m: &Memory) -> u64 {
+    m.capacity() - free_number(m)
 }
 
 /// The call as document 01 has it.
 pub fn made(call: Call, m: &mut Memory) -> Returned {
-    let mut answer = UNTOUCHED;
+    let (mut answer, mut free_indices) = (UNTOUCHED, UNTOUCHED);
     let value = match call {
         Call::New(size) => new(m, size as u64),
         Call::ChangeCapacity(n) => change_capacity(m, n as u64),
-        Call::Get => get(m, &mut answer),
+        Call::Get => get(m, &mut answer, &mut free_indices),
         Call::Release(i) => release(m, i as u64),
         Call::Used => reading(m, &mut answer, used),
         Call::IsEmpty => reading(m, &mut answer, |m| (m.in_use() == 0) as u64),
         Call::GetCapacity => reading(m, &mut answer, Memory::capacity),
     };
-    Returned { value, answer }
+    Returned {
+        value,
+        answer,
+        free_indices,
+    }
 }

@@ -1,5 +1,5 @@
 //! The product's calls, what a caller has of one afterwards, and the kinds of answers that are counted.
-use crate::store::call::{Call, Returned, UNTOUCHED};
+use crate::store::call::{Call, Returned, NUMBERS, UNTOUCHED};
 use crate::store::kinds as of_store;
 use library::store::Opening;
 
@@ -47,7 +47,7 @@ impl ProbeReturned {
 
     /// Whether no answer was written.
     pub fn is_untouched(&self) -> bool {
-        self.of_store.numbers == [UNTOUCHED; 5] && self.tallies.iter().all(|t| *t == UNTOUCHED_TALLY)
+        self.of_store.numbers == [UNTOUCHED; NUMBERS] && self.tallies.iter().all(|t| *t == UNTOUCHED_TALLY)
     }
 
     /// Index and label index of a kept set.

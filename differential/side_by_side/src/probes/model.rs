@@ -1,7 +1,7 @@
 //! A product over the model of the store, written plainly from docs/STORE.md. It shares nothing with the library.
 use super::call::{ProbeCall, ProbeReturned};
 use crate::mutant;
-use crate::store::call::Call;
+use crate::store::call::{Call, FIGURE};
 use crate::store::memory::*;
 use crate::store::model::{self, Met};
 use crate::store::well_formed::{is_well_formed, outside_the_bounds};
@@ -121,6 +121,9 @@ fn set(m: &mut Lent, kinds: &[u8], floats: &[u32], label: usize, r: &mut ProbeRe
     }
     let point = filled(kinds, floats, &last_floats(m));
     r.of_store = model::made(&Call::Add { point, label }, m, met);
+    if r.kept().is_some() && mutant::is("probes-figure-without-the-new-window") {
+        r.of_store.numbers[FIGURE] += 1;
+    }
     let waiting = r.value() == 0 && r.kept().is_none();
     let tallied = r.value() == 0 || (r.value() == 9 && mutant::is("probes-a-refused-set-tallies"));
     if tallied && !(waiting && mutant::is("probes-a-waiting-set-is-not-tallied")) {

@@ -11,7 +11,7 @@ use crate::store::model::Met;
 use crate::store::model_rows::PAST_A_FIFTH;
 use crate::store::rust_side::{self, Ground, Outcome};
 use crate::store::sides::refused_in_rust;
-use library::store::{Added, Lent, Opening};
+use library::store::{Lent, Opening};
 use reference::Store;
 
 /// What the sets and their answers say of the probes.
@@ -35,20 +35,13 @@ pub struct ProbeSides {
 
 fn made_by_the_library(call: &ProbeCall, m: &mut Lent) -> ProbeReturned {
     let mut r = ProbeReturned::lent(call);
-    let [kept, index, label_index, joined, place] = r.of_store.numbers;
     match call {
         ProbeCall::Open(opening) => r.of_store.value = m.probes_open(*opening),
         ProbeCall::Inside(call) => r.of_store = library_side::made(call, m),
         ProbeCall::Set { kinds, floats, label } => {
-            let mut a = Added {
-                kept,
-                index,
-                label_index,
-                joined,
-                place,
-            };
+            let mut a = library_side::lent_to_an_add(r.of_store.numbers);
             r.of_store.value = m.probes_set(kinds, floats, *label, &mut a);
-            r.of_store.numbers = [a.kept, a.index, a.label_index, a.joined, a.place];
+            r.of_store.numbers = library_side::written_by_an_add(r.of_store.value, a);
         }
         ProbeCall::Tallies { .. } => r.of_store.value = m.probes_tallies(&mut r.tallies),
     }

@@ -99,11 +99,15 @@ impl Call {
 pub const UNTOUCHED: u64 = 0x5555_aaaa_5555_aaaa;
 pub const UNTOUCHED_WORD: u32 = 0x5a5a_a5a5;
 
+/// An add lends as many numbers; the last is its figure, how many indices remain free.
+pub const NUMBERS: usize = 6;
+pub const FIGURE: usize = 5;
+
 /// What a call returned, and what the answers that the caller lent hold after it.
 #[derive(Clone, Debug, PartialEq)]
 pub struct Returned {
     pub value: u64,
-    pub numbers: [u64; 5],
+    pub numbers: [u64; NUMBERS],
     pub words: Vec<u32>,
     pub list: Vec<usize>,
 }
@@ -121,7 +125,7 @@ impl Returned {
         };
         Returned {
             value: 0,
-            numbers: [UNTOUCHED; 5],
+            numbers: [UNTOUCHED; NUMBERS],
             words: vec![UNTOUCHED_WORD; words],
             list: vec![UNTOUCHED as usize; list],
         }

@@ -420,22 +420,22 @@ fn answered_otherwise() -> Vec<Otherwise> {
             &[1],
             &[0],
         ),
-        // The Rust compares floats, and the store their bits: kept, index, label index, joined, place.
+        // The Rust compares floats, and the store their bits: kept, index, label index, joined, place, free.
         row(
             "-0.0 after 0.0",
             [2, 2, 2, 2],
             "",
             vec![add_words(&[ONE, 0]), add_words(&[MINUS_ZERO, ONE])],
-            &[1, 1, no_label, 0, 2],
-            &[1, 1, no_label, 1, 1],
+            &[1, 1, no_label, 0, 2, 0],
+            &[1, 1, no_label, 1, 1, 0],
         ),
         row(
             "a NaN after the same NaN",
             [2, 2, 2, 2],
             "",
             vec![add_words(&[ONE, A_NAN]), add_words(&[A_NAN, ONE])],
-            &[1, 1, no_label, 1, 1],
-            &[1, 1, no_label, 0, 2],
+            &[1, 1, no_label, 1, 1, 0],
+            &[1, 1, no_label, 0, 2, 0],
         ),
         row(
             "-0.0 compared with 0.0",

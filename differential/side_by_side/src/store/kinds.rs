@@ -26,7 +26,7 @@ const REFUSALS: [&[u64]; 18] = [
 ];
 
 /// What calls meet on their way.
-pub const ON_THE_WAY: [&str; 27] = [
+pub const ON_THE_WAY: [&str; 30] = [
     "a Waiting add",
     "Whole",
     "Joined",
@@ -34,6 +34,9 @@ pub const ON_THE_WAY: [&str; 27] = [
     "no join because of a zero's sign",
     "no join because of a NaN's bits",
     "the table grew",
+    "a kept add that left no index free",
+    "a kept add that left some of a grown table free",
+    "a kept add that left the table shorter than the capacity",
     "the floats grew",
     "the floats grew to no multiple of base",
     PAST_A_FIFTH,

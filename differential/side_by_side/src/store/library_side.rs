@@ -1,5 +1,5 @@
 //! The library's side of a call.
-use super::call::{Call, Returned};
+use super::call::{Call, Returned, NUMBERS};
 use crate::mutant;
 use library::store::{Added, Lent};
 
@@ -54,15 +54,39 @@ pub fn made(call: &Call, m: &mut Lent) -> Returned {
 }
 
 fn add(m: &mut Lent, point: &[u32], label: usize, r: &mut Returned) -> u64 {
-    let [kept, index, label_index, joined, place] = r.numbers;
-    let mut a = Added {
+    let mut a = lent_to_an_add(r.numbers);
+    let value = m.add(point, label, &mut a);
+    r.numbers = written_by_an_add(value, a);
+    value
+}
+
+/// The numbers that an add is lent.
+pub fn lent_to_an_add(numbers: [u64; NUMBERS]) -> Added {
+    let [kept, index, label_index, joined, place, free_indices] = numbers;
+    Added {
         kept,
         index,
         label_index,
         joined,
         place,
-    };
-    let value = m.add(point, label, &mut a);
-    r.numbers = [a.kept, a.index, a.label_index, a.joined, a.place];
-    value
+        free_indices,
+    }
+}
+
+/// What they hold after it.
+pub fn written_by_an_add(value: u64, mut a: Added) -> [u64; NUMBERS] {
+    let of_waiting = [
+        "harness-writes-the-figure-of-a-waiting-add",
+        "harness-writes-the-figure-of-a-waiting-set",
+    ];
+    let of_refused = [
+        "harness-writes-the-figure-of-a-refused-add",
+        "harness-writes-the-figure-of-a-refused-hold-add",
+    ];
+    if value == 0 && a.kept == 0 && of_waiting.into_iter().any(mutant::is)
+        || value != 0 && of_refused.into_iter().any(mutant::is)
+    {
+        a.free_indices = 0;
+    }
+    [a.kept, a.index, a.label_index, a.joined, a.place, a.free_indices]
 }

@@ -1,5 +1,5 @@
 //! Add, compact and copy.
-use super::call::Returned;
+use super::call::{Returned, FIGURE};
 use super::memory::*;
 use super::model::Met;
 use crate::mutant;
@@ -159,8 +159,9 @@ fn take_label(m: &mut Lent, code: usize, met: &mut Met) -> usize {
 /// A point index and the row's place; the stack may grow.
 fn take_point(m: &mut Lent, row: &[u32], r: &mut Returned, met: &mut Met) {
     let s = shape(m);
+    let length_before = word(m, TABLE_LENGTH);
     if point_stack(m).is_empty() {
-        let old = word(m, TABLE_LENGTH);
+        let old = length_before;
         let new = grown(old, 1, s.capacity);
         meet_growth(old, new, s.capacity, met);
         met.push("the table grew");
@@ -188,6 +189,35 @@ fn take_point(m: &mut Lent, row: &[u32], r: &mut Returned, met: &mut Met) {
     r.numbers[1] = index as u64;
     r.numbers[3] = joined as u64;
     r.numbers[4] = (start / s.base) as u64;
+    r.numbers[FIGURE] = figure(m, length_before, met);
+}
+
+/// How many indices remain free: the table's length less the live points, the new one among them.
+fn figure(m: &Lent, length_before: usize, met: &mut Met) -> u64 {
+    let (length, capacity) = (word(m, TABLE_LENGTH), word(m, CAPACITY));
+    let live = live_indices(m).len();
+    let left = length - live;
+    if left == 0 {
+        met.push("a kept add that left no index free");
+    }
+    if left > 0 && length > length_before {
+        met.push("a kept add that left some of a grown table free");
+    }
+    if left != capacity - live {
+        met.push("a kept add that left the table shorter than the capacity");
+    }
+    let faulty = if mutant::is("figure-without-the-new-point") {
+        left + 1
+    } else if mutant::is("figure-of-the-capacity") {
+        capacity - live
+    } else if mutant::is("figure-of-the-table-before-growth") {
+        length_before.saturating_sub(live)
+    } else if mutant::is("figure-of-the-label-indices") && m.words[STORE_LABELS] == 1 {
+        capacity - live_labels(m).len()
+    } else {
+        left
+    };
+    faulty as u64
 }
 
 /// Where bits and floats would join otherwise.

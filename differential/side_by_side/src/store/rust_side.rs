@@ -121,7 +121,8 @@ fn answered(call: &Call, s: Shape, rust: &mut Store) -> reference::types::Result
     Ok(r)
 }
 
-/// Place and free start are the Rust's; whether it joined shows in how far the free start went.
+/// Place and free start are the Rust's; whether it joined shows in how far the free start went, and how many indices remain free in
+/// its table's length and its manager's `used`.
 fn add(rust: &mut Store, s: Shape, point: &[u32], label: usize, r: &mut Returned) -> reference::types::Result<()> {
     let mut from = rust.free_start();
     if from + s.dimensions > rust.floats().len() {
@@ -134,7 +135,15 @@ fn add(rust: &mut Store, s: Shape, point: &[u32], label: usize, r: &mut Returned
     if index != NONE {
         let joined = s.base != s.dimensions && rust.free_start() == from + s.base;
         let place = rust.places()[index];
-        r.numbers = [1, index as u64, label_index as u64, joined as u64, place as u64];
+        let free = rust.table_length() - rust.index_manager().used();
+        r.numbers = [
+            1,
+            index as u64,
+            label_index as u64,
+            joined as u64,
+            place as u64,
+            free as u64,
+        ];
     }
     Ok(())
 }

@@ -1,6 +1,6 @@
 //! A store on all sides: the library and the model over memory of their own and, as long as document 01's comparison ground
 //! reaches, the Rust.
-use super::call::{Call, Returned, UNTOUCHED, UNTOUCHED_WORD};
+use super::call::{Call, Returned, FIGURE, NUMBERS, UNTOUCHED, UNTOUCHED_WORD};
 use super::memory::*;
 use super::model::Met;
 use super::model_rows::PAST_A_FIFTH;
@@ -104,7 +104,7 @@ impl Sides {
             before.words[FREE_START] = self.model.words[FREE_START];
             unchanged = &before;
         }
-        let wrote = answers != [UNTOUCHED; 5]
+        let wrote = answers != [UNTOUCHED; NUMBERS]
             || got.words.iter().any(|w| *w != UNTOUCHED_WORD)
             || got.list.iter().any(|k| *k != UNTOUCHED as usize);
         if wrote || self.model != *unchanged {
@@ -258,6 +258,9 @@ fn sow_in_both(call: &Call, returned: &mut Returned, m: &mut Lent) {
     match call {
         Call::Add { .. } if returned.numbers[0] == 1 && mutant::is("both-give-the-wrong-place") => {
             returned.numbers[4] += 1
+        }
+        Call::Add { .. } if returned.numbers[0] == 1 && mutant::is("both-tell-one-free-index-more") => {
+            returned.numbers[FIGURE] += 1
         }
         Call::Add { .. } if mutant::is("both-write-a-float-past-the-free-start") => {
             let at = m.words[FREE_START] as usize;

@@ -36,17 +36,23 @@ fn main() -> Result<()> {
         .internal_shingling(true);
     let mut probes = shape.open_probes()?;
     let mut windows = VecDeque::new();
+    let mut left = WINDOWS;
     for turn in 0..TURNS {
         // The window that has been looked at longest makes room for the next.
-        if windows.len() == WINDOWS {
+        if left == 0 {
             if let Some(oldest) = windows.pop_front() {
                 probes.dec(oldest, NONE)?;
             }
         }
         match probes.set(report(turn), 0)? {
             Added::Waiting => println!("turn {turn}: waiting"),
-            Added::Kept { index, .. } => {
+            Added::Kept {
+                index,
+                free_indices,
+                ..
+            } => {
                 windows.push_back(index);
+                left = free_indices;
                 let window = probes.store().copy(index)?;
                 let of = |probe: usize| {
                     let floats: Vec<String> = (0..SETS)
@@ -55,7 +61,7 @@ fn main() -> Result<()> {
                     floats.join(" ")
                 };
                 println!(
-                    "turn {turn}: window {index}, probe 2: {}, probe 5: {}",
+                    "turn {turn}: window {index}, {left} left, probe 2: {}, probe 5: {}",
                     of(2),
                     of(5)
                 );

@@ -17,7 +17,7 @@ copy-list-requires : tie.Need-copy-list-requires
 copy-list-requires c κs =
     let a = c .before .before .before .before .before .before .before .before .before .before .before .before .before .before .before .before .before .before .before .before .before .before .before .args in
     let h = pointHold (a .h) (holdHeld (a .store) (a .last-known-shingle) (a .reference-count) (a .location) (a .index-starts) (a .index-ends) (a .labels) (a .label-attributes) (a .label-count) (a .label-starts) (a .label-ends) (a .attributes) (a .attribute-count) (a .attribute-starts) (a .attribute-ends) (a .held-indices) (a .held-labels)) in
-    held-fits h (sym (c .before .before .before .before .check-hold .ensures) ∙ c .before .before .before .if1 .taken) (length (a .out .now)) (c .before .if2 .taken)
+    held-fits h (sym (c .before .before .before .before .check-hold .ensures .0) ∙ c .before .before .before .if1 .taken) (length (a .out .now)) (c .before .if2 .taken)
 
 same-length : tie.Need-same-length
 same-length c = c .before .before .copy-list .kept .1 .0
@@ -26,19 +26,19 @@ returns : tie.Need-returns
 returns c =
     let a = c .before .before .before .before .before .before .before .before .before .before .before .before .before .before .before .before .before .before .before .before .before .before .before .before .before .before .args in
     let h = pointHold (a .h) (holdHeld (a .store) (a .last-known-shingle) (a .reference-count) (a .location) (a .index-starts) (a .index-ends) (a .labels) (a .label-attributes) (a .label-count) (a .label-starts) (a .label-ends) (a .attributes) (a .attribute-count) (a .attribute-starts) (a .attribute-ends) (a .held-indices) (a .held-labels)) in
-    ap (λ (xs : List ℕ). output done xs) (c .before .before .copy-list .ensures) ∙ held-whole h (sym (c .before .before .before .before .before .before .before .check-hold .ensures) ∙ c .before .before .before .before .before .before .if1 .taken) (a .out .now) (c .before .before .before .before .if2 .taken)
+    ap (λ (xs : List ℕ). output done xs) (c .before .before .copy-list .ensures) ∙ held-whole h (sym (c .before .before .before .before .before .before .before .check-hold .ensures .0) ∙ c .before .before .before .before .before .before .if1 .taken) (a .out .now) (c .before .before .before .before .if2 .taken)
 
 returns-2 : tie.Need-returns-2
 returns-2 c =
     let a = c .before .before .before .before .before .before .before .before .before .before .before .before .before .before .before .before .before .before .before .before .before .before .args in
     let h = pointHold (a .h) (holdHeld (a .store) (a .last-known-shingle) (a .reference-count) (a .location) (a .index-starts) (a .index-ends) (a .labels) (a .label-attributes) (a .label-count) (a .label-starts) (a .label-ends) (a .attributes) (a .attribute-count) (a .attribute-starts) (a .attribute-ends) (a .held-indices) (a .held-labels)) in
-    held-short h (sym (c .before .before .before .check-hold .ensures) ∙ c .before .before .if1 .taken) (a .out .now) (c .if2 .left)
+    held-short h (sym (c .before .before .before .check-hold .ensures .0) ∙ c .before .before .if1 .taken) (a .out .now) (c .if2 .left)
 
 returns-3 : tie.Need-returns-3
 returns-3 c =
     let a = c .before .before .before .before .before .before .before .before .before .before .before .before .before .before .before .before .before .before .before .before .args in
     let h = pointHold (a .h) (holdHeld (a .store) (a .last-known-shingle) (a .reference-count) (a .location) (a .index-starts) (a .index-ends) (a .labels) (a .label-attributes) (a .label-count) (a .label-starts) (a .label-ends) (a .attributes) (a .attribute-count) (a .attribute-starts) (a .attribute-ends) (a .held-indices) (a .held-labels)) in
-    held-ill h (sym (c .before .check-hold .ensures) ∙ c .if1 .left) (a .out .now)
+    held-ill h (sym (c .before .check-hold .ensures .0) ∙ c .if1 .left) (a .out .now)
 
 pub held-spec : {M : Type 1} → statement M
 held-spec = tie.close (tie.spec check-hold-requires copy-list-requires same-length returns returns-2 returns-3)

@@ -35,13 +35,13 @@ get-unchecked-requires : tie.Need-get-unchecked-requires
 get-unchecked-requires c κs = search needs
 
 slice-write-attributes : tie.Need-slice-write-attributes
-slice-write-attributes c = omega (arith, index-given (counted (c .before .before .before .before .before .before .before .before .before .before .before .before .args .manager) (c .before .before .before .before .before .before .before .before .before .before .before .before .args .attribute-count .now) (c .before .before .before .before .before .before .before .before .before .before .before .before .args .attribute-starts .now) (c .before .before .before .before .before .before .before .before .before .before .before .before .args .attribute-ends .now)) (c .before .before .get-unchecked .result .given .index) _ _ _ (c .before .before .get-unchecked .ensures), next-within (c .before .before .before .before .before .before .before .before .before .before .before .before .args .capacity) (counted (c .before .before .before .before .before .before .before .before .before .before .before .before .args .manager) (c .before .before .before .before .before .before .before .before .before .before .before .before .args .attribute-count .now) (c .before .before .before .before .before .before .before .before .before .before .before .before .args .attribute-starts .now) (c .before .before .before .before .before .before .before .before .before .before .before .before .args .attribute-ends .now)) (c .before .before .before .before .before .before .before .before .before .before .before .before .pre .well) (c .before .before .before .before .before .before .before .before .before .before .before .before .pre .some-free), c .before .before .before .before .before .before .before .before .before .before .before .before .pre .lent)
+slice-write-attributes c = omega (arith, index-given (counted (c .before .before .before .before .before .before .before .before .before .before .before .before .args .manager) (c .before .before .before .before .before .before .before .before .before .before .before .before .args .attribute-count .now) (c .before .before .before .before .before .before .before .before .before .before .before .before .args .attribute-starts .now) (c .before .before .before .before .before .before .before .before .before .before .before .before .args .attribute-ends .now)) (c .before .before .get-unchecked .result .given .index) _ _ _ _ (c .before .before .get-unchecked .ensures), next-within (c .before .before .before .before .before .before .before .before .before .before .before .before .args .capacity) (counted (c .before .before .before .before .before .before .before .before .before .before .before .before .args .manager) (c .before .before .before .before .before .before .before .before .before .before .before .before .args .attribute-count .now) (c .before .before .before .before .before .before .before .before .before .before .before .before .args .attribute-starts .now) (c .before .before .before .before .before .before .before .before .before .before .before .before .args .attribute-ends .now)) (c .before .before .before .before .before .before .before .before .before .before .before .before .pre .well) (c .before .before .before .before .before .before .before .before .before .before .before .before .pre .some-free), c .before .before .before .before .before .before .before .before .before .before .before .before .pre .lent)
 
 mul-attribute-count-2 : tie.Need-mul-attribute-count-2
-mul-attribute-count-2 c = scaled-fits _ _ _ (omega (arith, index-given (counted (c .before .before .before .before .before .before .before .before .before .before .before .before .args .manager) (c .before .before .before .before .before .before .before .before .before .before .before .before .args .attribute-count .now) (c .before .before .before .before .before .before .before .before .before .before .before .before .args .attribute-starts .now) (c .before .before .before .before .before .before .before .before .before .before .before .before .args .attribute-ends .now)) (c .before .before .get-unchecked .result .given .index) _ _ _ (c .before .before .get-unchecked .ensures), next-within (c .before .before .before .before .before .before .before .before .before .before .before .before .args .capacity) (counted (c .before .before .before .before .before .before .before .before .before .before .before .before .args .manager) (c .before .before .before .before .before .before .before .before .before .before .before .before .args .attribute-count .now) (c .before .before .before .before .before .before .before .before .before .before .before .before .args .attribute-starts .now) (c .before .before .before .before .before .before .before .before .before .before .before .before .args .attribute-ends .now)) (c .before .before .before .before .before .before .before .before .before .before .before .before .pre .well) (c .before .before .before .before .before .before .before .before .before .before .before .before .pre .some-free), c .before .before .before .before .before .before .before .before .before .before .before .before .pre .well .lent)) (c .before .before .before .before .before .before .before .before .before .before .before .before .good .1 .1 .1 .0 .1)
+mul-attribute-count-2 c = scaled-fits _ _ _ (omega (arith, index-given (counted (c .before .before .before .before .before .before .before .before .before .before .before .before .args .manager) (c .before .before .before .before .before .before .before .before .before .before .before .before .args .attribute-count .now) (c .before .before .before .before .before .before .before .before .before .before .before .before .args .attribute-starts .now) (c .before .before .before .before .before .before .before .before .before .before .before .before .args .attribute-ends .now)) (c .before .before .get-unchecked .result .given .index) _ _ _ _ (c .before .before .get-unchecked .ensures), next-within (c .before .before .before .before .before .before .before .before .before .before .before .before .args .capacity) (counted (c .before .before .before .before .before .before .before .before .before .before .before .before .args .manager) (c .before .before .before .before .before .before .before .before .before .before .before .before .args .attribute-count .now) (c .before .before .before .before .before .before .before .before .before .before .before .before .args .attribute-starts .now) (c .before .before .before .before .before .before .before .before .before .before .before .before .args .attribute-ends .now)) (c .before .before .before .before .before .before .before .before .before .before .before .before .pre .well) (c .before .before .before .before .before .before .before .before .before .before .before .before .pre .some-free), c .before .before .before .before .before .before .before .before .before .before .before .before .pre .well .lent)) (c .before .before .before .before .before .before .before .before .before .before .before .before .good .1 .1 .1 .0 .1)
 
 slice-write-attribute-count-2 : tie.Need-slice-write-attribute-count-2
-slice-write-attribute-count-2 c = omega (arith, index-given (counted (c .before .before .before .before .before .before .before .before .before .before .before .before .args .manager) (c .before .before .before .before .before .before .before .before .before .before .before .before .args .attribute-count .now) (c .before .before .before .before .before .before .before .before .before .before .before .before .args .attribute-starts .now) (c .before .before .before .before .before .before .before .before .before .before .before .before .args .attribute-ends .now)) (c .before .before .get-unchecked .result .given .index) _ _ _ (c .before .before .get-unchecked .ensures), next-within (c .before .before .before .before .before .before .before .before .before .before .before .before .args .capacity) (counted (c .before .before .before .before .before .before .before .before .before .before .before .before .args .manager) (c .before .before .before .before .before .before .before .before .before .before .before .before .args .attribute-count .now) (c .before .before .before .before .before .before .before .before .before .before .before .before .args .attribute-starts .now) (c .before .before .before .before .before .before .before .before .before .before .before .before .args .attribute-ends .now)) (c .before .before .before .before .before .before .before .before .before .before .before .before .pre .well) (c .before .before .before .before .before .before .before .before .before .before .before .before .pre .some-free), c .before .before .before .before .before .before .before .before .before .before .before .before .pre .well .lent)
+slice-write-attribute-count-2 c = omega (arith, index-given (counted (c .before .before .before .before .before .before .before .before .before .before .before .before .args .manager) (c .before .before .before .before .before .before .before .before .before .before .before .before .args .attribute-count .now) (c .before .before .before .before .before .before .before .before .before .before .before .before .args .attribute-starts .now) (c .before .before .before .before .before .before .before .before .before .before .before .before .args .attribute-ends .now)) (c .before .before .get-unchecked .result .given .index) _ _ _ _ (c .before .before .get-unchecked .ensures), next-within (c .before .before .before .before .before .before .before .before .before .before .before .before .args .capacity) (counted (c .before .before .before .before .before .before .before .before .before .before .before .before .args .manager) (c .before .before .before .before .before .before .before .before .before .before .before .before .args .attribute-count .now) (c .before .before .before .before .before .before .before .before .before .before .before .before .args .attribute-starts .now) (c .before .before .before .before .before .before .before .before .before .before .before .before .args .attribute-ends .now)) (c .before .before .before .before .before .before .before .before .before .before .before .before .pre .well) (c .before .before .before .before .before .before .before .before .before .before .before .before .pre .some-free), c .before .before .before .before .before .before .before .before .before .before .before .before .pre .well .lent)
 
 same-length-3 : tie.Need-same-length-3
 same-length-3 c = search needs
@@ -53,7 +53,7 @@ same-length-5 : tie.Need-same-length-5
 same-length-5 c = search needs
 
 returns-2 : tie.Need-returns-2
-returns-2 c = taken-new (c .before .before .before .before .before .before .before .before .before .before .before .before .before .args .capacity) (c .before .before .before .before .before .before .before .before .before .before .before .before .before .args .attributes .now) (counted (c .before .before .before .before .before .before .before .before .before .before .before .before .before .args .manager) (c .before .before .before .before .before .before .before .before .before .before .before .before .before .args .attribute-count .now) (c .before .before .before .before .before .before .before .before .before .before .before .before .before .args .attribute-starts .now) (c .before .before .before .before .before .before .before .before .before .before .before .before .before .args .attribute-ends .now)) (c .before .before .before .before .before .before .before .before .before .before .before .before .before .args .class) (c .before .before .before .before .before .before .class-slot .result) (c .before .before .before .before .before .before .class-slot .ensures) _ _ _ _ (c .before .before .before .before .before .if1 .left) (c .before .before .before .get-unchecked .ensures)
+returns-2 c = taken-new (c .before .before .before .before .before .before .before .before .before .before .before .before .before .args .capacity) (c .before .before .before .before .before .before .before .before .before .before .before .before .before .args .attributes .now) (counted (c .before .before .before .before .before .before .before .before .before .before .before .before .before .args .manager) (c .before .before .before .before .before .before .before .before .before .before .before .before .before .args .attribute-count .now) (c .before .before .before .before .before .before .before .before .before .before .before .before .before .args .attribute-starts .now) (c .before .before .before .before .before .before .before .before .before .before .before .before .before .args .attribute-ends .now)) (c .before .before .before .before .before .before .before .before .before .before .before .before .before .args .class) (c .before .before .before .before .before .before .class-slot .result) (c .before .before .before .before .before .before .class-slot .ensures) _ _ _ _ _ (c .before .before .before .before .before .if1 .left) (c .before .before .before .get-unchecked .ensures)
 
 pub take-slot-spec : {M : Type 1} → statement M
 take-slot-spec =

@@ -16,7 +16,7 @@ page-unchecked-requires c κs =
     let a = c .before .before .before .before .before .before .before .before .before .before .before .before .before .before .before .before .before .before .before .before .args in
     let m = (held (a .store) (a .last-known-shingle) (a .reference-count) (a .location) (a .index-starts) (a .index-ends) (a .labels) (a .label-attributes) (a .label-count) (a .label-starts) (a .label-ends) (a .attributes) (a .attribute-count) (a .attribute-starts) (a .attribute-ends)) in
     let k = c .before .before .before .check in
-    readable (pointStore (a .s) m) (a .text .now) (sym (k .ensures .0 ∙ well-formed-lengths (a .s) m) ∙ c .before .before .if1 .taken) (k .result .live) (k .ensures .1 (c .before .before .if1 .taken))
+    readable (pointStore (a .s) m) (a .text .now) (sym (k .ensures .0 ∙ well-formed-lengths (a .s) m) ∙ c .before .before .if1 .taken) (k .result .figures .live) (k .ensures .1 (c .before .before .if1 .taken) .live-is)
 
 same-length : tie.Need-same-length
 same-length c = search needs

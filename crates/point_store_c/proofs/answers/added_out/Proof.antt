@@ -1,4 +1,4 @@
--- A kept add stores all five numbers, a waiting one the first, a refused one none.
+-- A kept add stores all six numbers, a waiting one the first, a refused one none.
 use Rattle.point_store_c.specs.ExportedStore.{exportedReading}
 use borrow.Author.Needs.{needs}
 use Rattle.point_store_c.proofs.answers.added_out.Statement.{statement}

@@ -1,4 +1,5 @@
 -- What the manager's get ensures, carried to the record, the lent number and the return value.
+use mathlib.Core.List.{[], _∷_}
 use mathlib.Core.Path.{refl, sym, _∙_, ap}
 use Rattle.interval_store_manager.specs.Answers.{given, refused, gotMeans}
 use Rattle.interval_store_manager.specs.Calls.{getSpec}
@@ -28,7 +29,7 @@ manager-out-requires c κs =
     let i = c .before .before .before .before .before .before .before .before .before .manager-in in
     let g = c .before .before .before .before .before .before .before .get in
     accepted-long (λ m. getSpec m (a .starts .now) (a .ends .now))
-    (a .words .now) (i .result) (g .result .manager) (g .last .1 .0) (a .ends .now) (gotMeans (g .result .answer)) (given (c .before .before .answer2 .given .0 .0 .index))
+    (a .words .now) (i .result) (g .result .manager) (g .last .1 .0) (a .ends .now) (gotMeans (g .result .answer)) (given (c .before .before .answer2 .given .0 .0 .index) (c .before .before .answer2 .given .0 .0 .free))
     (get-refuses (a .starts .now) (a .ends .now)) (i .ensures) (g .ensures)
     (ap gotMeans (c .before .before .answer2 .given .1)) refl
 
@@ -44,7 +45,7 @@ returns c =
     let i = c .before .before .before .before .before .before .before .before .before .manager-in in
     let g = c .before .before .before .before .before .before .before .get in
     call-refused (λ m. getSpec m (a .starts .now) (a .ends .now))
-    (a .words .now) (i .result) (g .result .manager) (g .last .1 .0) (a .ends .now) (gotMeans (g .result .answer)) (i .ensures) (g .ensures) (a .index .now) (c .refusal-number .result)
+    (a .words .now) (i .result) (g .result .manager) (g .last .1 .0) (a .ends .now) (gotMeans (g .result .answer)) (i .ensures) (g .ensures) (a .index .now ∷ a .free-indices .now ∷ []) (c .refusal-number .result)
     (ap gotMeans (c .before .before .answer .given .1) ∙ ap refused (sym (c .refusal-number .ensures)))
 
 same-length-3 : tie.Need-same-length-3
@@ -60,7 +61,7 @@ returns-2 c =
     let g = c .before .before .before .before .before .before .before .before .before .before .get in
     rw (c .before .before .manager-out .ensures)
     (call-given (λ m. getSpec m (a .starts .now) (a .ends .now))
-    (a .words .now) (i .result) (g .result .manager) (g .last .1 .0) (a .ends .now) (gotMeans (g .result .answer)) (i .ensures) (g .ensures) (a .index .now) (c .before .before .before .before .before .answer2 .given .0 .0 .index)
+    (a .words .now) (i .result) (g .result .manager) (g .last .1 .0) (a .ends .now) (gotMeans (g .result .answer)) (i .ensures) (g .ensures) (a .index .now ∷ a .free-indices .now ∷ []) (c .before .before .before .before .before .answer2 .given .0 .0 .index) (c .before .before .before .before .before .answer2 .given .0 .0 .free)
     (ap gotMeans (c .before .before .before .before .before .answer2 .given .1)))
 
 pub ps-manager-get-spec : {M : Type 1} → statement M

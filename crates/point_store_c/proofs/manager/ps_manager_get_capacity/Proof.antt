@@ -1,4 +1,5 @@
 -- What the manager's get_capacity ensures, carried to the lent number and the return value.
+use mathlib.Core.List.{[], _∷_}
 use mathlib.Core.Path.{sym, _∙_, ap}
 use Rattle.interval_store_manager.specs.Answers.{refused, numberMeans}
 use Rattle.interval_store_manager.specs.Calls.{getCapacitySpec}
@@ -28,7 +29,7 @@ returns c =
     let i = c .before .before .before .before .before .manager-in in
     let g = c .before .before .before .before .get-capacity in
     reading-refused (λ m. getCapacitySpec m (a .starts .now) (a .ends .now))
-    (a .words .now) (i .result) (numberMeans (g .result)) (i .ensures) (g .ensures) (a .capacity .now)
+    (a .words .now) (i .result) (numberMeans (g .result)) (i .ensures) (g .ensures) (a .capacity .now ∷ [])
     (c .refusal-number .result) (ap numberMeans (c .before .before .answer .given .1) ∙ ap refused (sym (c .refusal-number .ensures)))
 
 returns-2 : tie.Need-returns-2
@@ -37,7 +38,7 @@ returns-2 c =
     let i = c .before .before .before .before .manager-in in
     let g = c .before .before .before .get-capacity in
     reading-holds (λ m. getCapacitySpec m (a .starts .now) (a .ends .now))
-    (a .words .now) (i .result) (numberMeans (g .result)) (i .ensures) (g .ensures) (a .capacity .now)
+    (a .words .now) (i .result) (numberMeans (g .result)) (i .ensures) (g .ensures) (a .capacity .now ∷ [])
     (c .before .answer2 .given .0 .0) (ap numberMeans (c .before .answer2 .given .1))
 
 pub ps-manager-get-capacity-spec : {M : Type 1} → statement M

@@ -1,4 +1,5 @@
 -- What the manager's is_empty ensures, carried to the lent number and the return value.
+use mathlib.Core.List.{[], _∷_}
 use mathlib.Core.Path.{sym, _∙_, ap}
 use Rattle.interval_store_manager.specs.Answers.{refused, emptinessMeans}
 use Rattle.interval_store_manager.specs.Calls.{isEmptySpec}
@@ -31,7 +32,7 @@ returns c =
     let i = c .before .before .before .before .before .manager-in in
     let g = c .before .before .before .before .is-empty in
     reading-refused (λ m. isEmptySpec m (a .starts .now) (a .ends .now))
-    (a .words .now) (i .result) (emptinessMeans (g .result)) (i .ensures) (g .ensures) (a .empty .now)
+    (a .words .now) (i .result) (emptinessMeans (g .result)) (i .ensures) (g .ensures) (a .empty .now ∷ [])
     (c .refusal-number .result) (ap emptinessMeans (c .before .before .answer .given .1) ∙ ap refused (sym (c .refusal-number .ensures)))
 
 returns-2 : tie.Need-returns-2
@@ -40,7 +41,7 @@ returns-2 c =
     let i = c .before .before .before .before .manager-in in
     let g = c .before .before .before .is-empty in
     reading-says (λ m. isEmptySpec m (a .starts .now) (a .ends .now))
-    (a .words .now) (i .result) (emptinessMeans (g .result)) (i .ensures) (g .ensures) (a .empty .now)
+    (a .words .now) (i .result) (emptinessMeans (g .result)) (i .ensures) (g .ensures) (a .empty .now ∷ [])
     (c .before .answer2 .given .0 .0) (ap emptinessMeans (c .before .answer2 .given .1))
 
 pub ps-manager-is-empty-spec : {M : Type 1} → statement M

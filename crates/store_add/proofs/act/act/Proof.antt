@@ -30,13 +30,13 @@ shift-window-requires : tie.Need-shift-window-requires
 shift-window-requires c κs = let a = c .before .before .before .before .before .before .before .before .before .before .before .before .before .before .before .before .before .before .before .args in
     let m : Memory ℕ = record { store = a .store .now; lastKnownShingle = a .last-known-shingle .now; referenceCount = a .reference-count .now; location = a .location .now; indexStarts = a .index-starts .now; indexEnds = a .index-ends .now; labels = a .labels .now; labelAttributes = a .label-attributes .now; labelCount = a .label-count .now; labelStarts = a .label-starts .now; labelEnds = a .label-ends .now; attributes = a .attributes .now; attributeCount = a .attribute-count .now; attributeStarts = a .attribute-starts .now; attributeEnds = a .attribute-ends .now } in
     let p = pointStore (a .s) m in
-    waits-ready p (a .point .now) (a .label) (sym (c .before .before .before .before .before .before .before .before .before .before .before .before .before .before .before .before .before .before .before .pre) ∙ ap decisionMeans (c .before .enum-told .given .1)) .row
+    waits-ready p (a .point .now) (a .label) (sym (c .before .before .before .before .before .before .before .before .before .before .before .before .before .before .before .before .before .before .before .pre .0) ∙ ap decisionMeans (c .before .enum-told .given .1)) .row
 
 counted-requires : tie.Need-counted-requires
 counted-requires c κs = let a = c .before .before .before .before .before .before .before .before .before .before .before .before .before .before .before .before .before .before .before .before .before .before .args in
     let m : Memory ℕ = record { store = a .store .now; lastKnownShingle = a .last-known-shingle .now; referenceCount = a .reference-count .now; location = a .location .now; indexStarts = a .index-starts .now; indexEnds = a .index-ends .now; labels = a .labels .now; labelAttributes = a .label-attributes .now; labelCount = a .label-count .now; labelStarts = a .label-starts .now; labelEnds = a .label-ends .now; attributes = a .attributes .now; attributeCount = a .attribute-count .now; attributeStarts = a .attribute-starts .now; attributeEnds = a .attribute-ends .now } in
     let p = pointStore (a .s) m in
-    waits-ready p (a .point .now) (a .label) (sym (c .before .before .before .before .before .before .before .before .before .before .before .before .before .before .before .before .before .before .before .before .before .before .pre) ∙ ap decisionMeans (c .before .before .before .before .enum-told .given .1)) .opened
+    waits-ready p (a .point .now) (a .label) (sym (c .before .before .before .before .before .before .before .before .before .before .before .before .before .before .before .before .before .before .before .before .before .before .pre .0) ∙ ap decisionMeans (c .before .before .before .before .enum-told .given .1)) .opened
 
 enum-told-2 : tie.Need-enum-told-2
 enum-told-2 c = search needs
@@ -45,51 +45,51 @@ find-room-requires : tie.Need-find-room-requires
 find-room-requires c κs = let a = c .before .before .before .before .before .before .before .before .before .before .before .before .before .before .before .before .before .before .before .before .before .args in
     let m : Memory ℕ = record { store = a .store .now; lastKnownShingle = a .last-known-shingle .now; referenceCount = a .reference-count .now; location = a .location .now; indexStarts = a .index-starts .now; indexEnds = a .index-ends .now; labels = a .labels .now; labelAttributes = a .label-attributes .now; labelCount = a .label-count .now; labelStarts = a .label-starts .now; labelEnds = a .label-ends .now; attributes = a .attributes .now; attributeCount = a .attribute-count .now; attributeStarts = a .attribute-starts .now; attributeEnds = a .attribute-ends .now } in
     let p = pointStore (a .s) m in
-    let k = keeps-ready p (a .point .now) (a .label) (sym (c .before .before .before .before .before .before .before .before .before .before .before .before .before .before .before .before .before .before .before .before .before .pre) ∙ ap decisionMeans (c .before .before .before .enum-told2 .given .1)) in
+    let k = keeps-ready p (a .point .now) (a .label) (sym (c .before .before .before .before .before .before .before .before .before .before .before .before .before .before .before .before .before .before .before .before .before .pre .0) ∙ ap decisionMeans (c .before .before .before .enum-told2 .given .1)) in
     (k .room, k .row)
 
 label-for-requires : tie.Need-label-for-requires
-label-for-requires c κs = let a = c .before .before .before .before .before .before .before .before .before .before .before .before .before .before .before .before .before .before .before .before .before .before .before .before .before .before .before .before .before .before .before .before .before .before .before .before .args in
+label-for-requires c κs = let a = c .before .before .before .before .before .before .before .before .before .before .before .before .before .before .before .before .before .before .before .before .before .before .before .before .before .before .before .before .before .before .before .before .before .before .before .before .before .args in
     let m : Memory ℕ = record { store = a .store .now; lastKnownShingle = a .last-known-shingle .now; referenceCount = a .reference-count .now; location = a .location .now; indexStarts = a .index-starts .now; indexEnds = a .index-ends .now; labels = a .labels .now; labelAttributes = a .label-attributes .now; labelCount = a .label-count .now; labelStarts = a .label-starts .now; labelEnds = a .label-ends .now; attributes = a .attributes .now; attributeCount = a .attribute-count .now; attributeStarts = a .attribute-starts .now; attributeEnds = a .attribute-ends .now } in
     let p = pointStore (a .s) m in
-    let k = keeps-ready p (a .point .now) (a .label) (sym (c .before .before .before .before .before .before .before .before .before .before .before .before .before .before .before .before .before .before .before .before .before .before .before .before .before .before .before .before .before .before .before .before .before .before .before .before .pre) ∙ ap decisionMeans (c .before .before .before .before .before .before .before .before .before .before .before .before .before .before .before .before .before .before .enum-told2 .given .1)) in
-    label-ready p (a .point .now) (a .label) k
+    let k = keeps-ready p (a .point .now) (a .label) (sym (c .before .before .before .before .before .before .before .before .before .before .before .before .before .before .before .before .before .before .before .before .before .before .before .before .before .before .before .before .before .before .before .before .before .before .before .before .before .pre .0) ∙ ap decisionMeans (c .before .before .before .before .before .before .before .before .before .before .before .before .before .before .before .before .before .before .before .enum-told2 .given .1)) in
+    label-ready p (a .point .now) (a .label) k (a .figures) (c .before .before .before .before .before .before .before .before .before .before .before .before .before .before .before .before .before .before .before .before .before .before .before .before .before .before .before .before .before .before .before .before .before .before .before .before .before .pre .1)
 
 lay-row-requires : tie.Need-lay-row-requires
-lay-row-requires c κs = let a = c .before .before .before .before .before .before .before .before .before .before .before .before .before .before .before .before .before .before .before .before .before .before .before .before .before .before .before .before .before .before .before .before .before .before .before .before .before .before .before .before .before .before .before .before .before .before .before .before .before .before .before .before .before .args in
+lay-row-requires c κs = let a = c .before .before .before .before .before .before .before .before .before .before .before .before .before .before .before .before .before .before .before .before .before .before .before .before .before .before .before .before .before .before .before .before .before .before .before .before .before .before .before .before .before .before .before .before .before .before .before .before .before .before .before .before .before .before .args in
     let m : Memory ℕ = record { store = a .store .now; lastKnownShingle = a .last-known-shingle .now; referenceCount = a .reference-count .now; location = a .location .now; indexStarts = a .index-starts .now; indexEnds = a .index-ends .now; labels = a .labels .now; labelAttributes = a .label-attributes .now; labelCount = a .label-count .now; labelStarts = a .label-starts .now; labelEnds = a .label-ends .now; attributes = a .attributes .now; attributeCount = a .attribute-count .now; attributeStarts = a .attribute-starts .now; attributeEnds = a .attribute-ends .now } in
     let p = pointStore (a .s) m in
-    let k = keeps-ready p (a .point .now) (a .label) (sym (c .before .before .before .before .before .before .before .before .before .before .before .before .before .before .before .before .before .before .before .before .before .before .before .before .before .before .before .before .before .before .before .before .before .before .before .before .before .before .before .before .before .before .before .before .before .before .before .before .before .before .before .before .before .pre) ∙ ap decisionMeans (c .before .before .before .before .before .before .before .before .before .before .before .before .before .before .before .before .before .before .before .before .before .before .before .before .before .before .before .before .before .before .before .before .before .before .before .enum-told2 .given .1)) in
-    let fr = c .before .before .before .before .before .before .before .before .before .before .before .before .before .before .before .before .before .before .before .before .before .before .before .before .before .before .before .before .before .before .before .find-room in
+    let k = keeps-ready p (a .point .now) (a .label) (sym (c .before .before .before .before .before .before .before .before .before .before .before .before .before .before .before .before .before .before .before .before .before .before .before .before .before .before .before .before .before .before .before .before .before .before .before .before .before .before .before .before .before .before .before .before .before .before .before .before .before .before .before .before .before .before .pre .0) ∙ ap decisionMeans (c .before .before .before .before .before .before .before .before .before .before .before .before .before .before .before .before .before .before .before .before .before .before .before .before .before .before .before .before .before .before .before .before .before .before .before .before .enum-told2 .given .1)) in
+    let fr = c .before .before .before .before .before .before .before .before .before .before .before .before .before .before .before .before .before .before .before .before .before .before .before .before .before .before .before .before .before .before .before .before .find-room in
     let r = rowsAt (fr .result .extent .«start_free_region») (fr .result .extent .«store_length») (fr .last .1 .0) (fr .last .1 .1 .0) in
     let row = rowFrom (a .s) (a .last-known-shingle .now) (a .point .now) in
     let v = room-rows (a .s) (a .store .now) (a .location .now) (k .room) (fr .last .1 .0) (fr .last .1 .1 .0) (fr .result .extent .«start_free_region») (fr .result .extent .«store_length») (fr .ensures .0) in
-    let fits = not-true (overflows wordsEqual (a .s) r row) (sym (fr .ensures .1 .1) ∙ c .before .before .before .before .before .before .before .before .before .before .before .before .before .before .before .before .before .before .before .before .before .before .before .before .before .if1 .taken) in
+    let fits = not-true (overflows wordsEqual (a .s) r row) (sym (fr .ensures .1 .1) ∙ c .before .before .before .before .before .before .before .before .before .before .before .before .before .before .before .before .before .before .before .before .before .before .before .before .before .before .if1 .taken) in
     (k .row, lay-ready (a .s) r row (k .room .bounds) v (fr .result .joined) (fr .ensures .1 .0) fits)
 
 place-of-requires : tie.Need-place-of-requires
 place-of-requires c κs = search needs
 
 take-index-requires : tie.Need-take-index-requires
-take-index-requires c κs = let a = c .before .before .before .before .before .before .before .before .before .before .before .before .before .before .before .before .before .before .before .before .before .before .before .before .before .before .before .before .before .before .before .before .before .before .before .before .before .before .before .before .before .before .before .before .before .before .before .before .before .before .before .before .before .before .before .before .before .before .before .before .before .before .before .args in
+take-index-requires c κs = let a = c .before .before .before .before .before .before .before .before .before .before .before .before .before .before .before .before .before .before .before .before .before .before .before .before .before .before .before .before .before .before .before .before .before .before .before .before .before .before .before .before .before .before .before .before .before .before .before .before .before .before .before .before .before .before .before .before .before .before .before .before .before .before .before .before .args in
     let m : Memory ℕ = record { store = a .store .now; lastKnownShingle = a .last-known-shingle .now; referenceCount = a .reference-count .now; location = a .location .now; indexStarts = a .index-starts .now; indexEnds = a .index-ends .now; labels = a .labels .now; labelAttributes = a .label-attributes .now; labelCount = a .label-count .now; labelStarts = a .label-starts .now; labelEnds = a .label-ends .now; attributes = a .attributes .now; attributeCount = a .attribute-count .now; attributeStarts = a .attribute-starts .now; attributeEnds = a .attribute-ends .now } in
     let p = pointStore (a .s) m in
-    let k = keeps-ready p (a .point .now) (a .label) (sym (c .before .before .before .before .before .before .before .before .before .before .before .before .before .before .before .before .before .before .before .before .before .before .before .before .before .before .before .before .before .before .before .before .before .before .before .before .before .before .before .before .before .before .before .before .before .before .before .before .before .before .before .before .before .before .before .before .before .before .before .before .before .before .before .pre) ∙ ap decisionMeans (c .before .before .before .before .before .before .before .before .before .before .before .before .before .before .before .before .before .before .before .before .before .before .before .before .before .before .before .before .before .before .before .before .before .before .before .before .before .before .before .before .before .before .before .before .before .enum-told2 .given .1)) in
-    let fr = c .before .before .before .before .before .before .before .before .before .before .before .before .before .before .before .before .before .before .before .before .before .before .before .before .before .before .before .before .before .before .before .before .before .before .before .before .before .before .before .before .before .find-room in
+    let k = keeps-ready p (a .point .now) (a .label) (sym (c .before .before .before .before .before .before .before .before .before .before .before .before .before .before .before .before .before .before .before .before .before .before .before .before .before .before .before .before .before .before .before .before .before .before .before .before .before .before .before .before .before .before .before .before .before .before .before .before .before .before .before .before .before .before .before .before .before .before .before .before .before .before .before .before .pre .0) ∙ ap decisionMeans (c .before .before .before .before .before .before .before .before .before .before .before .before .before .before .before .before .before .before .before .before .before .before .before .before .before .before .before .before .before .before .before .before .before .before .before .before .before .before .before .before .before .before .before .before .before .before .enum-told2 .given .1)) in
+    let fr = c .before .before .before .before .before .before .before .before .before .before .before .before .before .before .before .before .before .before .before .before .before .before .before .before .before .before .before .before .before .before .before .before .before .before .before .before .before .before .before .before .before .before .find-room in
     let r = rowsAt (fr .result .extent .«start_free_region») (fr .result .extent .«store_length») (fr .last .1 .0) (fr .last .1 .1 .0) in
     let row = rowFrom (a .s) (a .last-known-shingle .now) (a .point .now) in
     let v = room-rows (a .s) (a .store .now) (a .location .now) (k .room) (fr .last .1 .0) (fr .last .1 .1 .0) (fr .result .extent .«start_free_region») (fr .result .extent .«store_length») (fr .ensures .0) in
-    index-ready p (k .sound-store) (k .on .not-full) (a .s .dimensions) (baseOf (a .s)) (fr .result .joined) r (omega (arith, v .free-inside, v .store-within, k .room .bounds .floats-most)) (v .places-lent) (c .before .before .before .before .place-of .result) (c .before .before .before .before .place-of .ensures ∙ ap placeOf (c .before .before .before .before .before .before .before .before .before .lay-row .ensures .1 .1 .0))
+    index-ready p (k .sound-store) (k .on .not-full) (a .s .dimensions) (baseOf (a .s)) (fr .result .joined) r (omega (arith, v .free-inside, v .store-within, k .room .bounds .floats-most)) (v .places-lent) (c .before .before .before .before .place-of .result) (c .before .before .before .before .place-of .ensures ∙ ap placeOf (c .before .before .before .before .before .before .before .before .before .lay-row .ensures .1 .1 .0)) (a .figures) (c .before .before .before .before .before .before .before .before .before .before .before .before .before .before .before .before .before .before .before .before .before .before .before .before .before .before .before .before .before .before .before .before .before .before .before .before .before .before .before .before .before .before .before .before .before .before .before .before .before .before .before .before .before .before .before .before .before .before .before .before .before .before .before .before .pre .1)
 
 kept-requires : tie.Need-kept-requires
-kept-requires c κs = let a = c .before .before .before .before .before .before .before .before .before .before .before .before .before .before .before .before .before .before .before .before .before .before .before .before .before .before .before .before .before .before .before .before .before .before .before .before .before .before .before .before .before .before .before .before .before .before .before .before .before .before .before .before .before .before .before .before .before .before .before .before .before .before .before .before .before .before .before .before .before .before .before .before .args in
+kept-requires c κs = let a = c .before .before .before .before .before .before .before .before .before .before .before .before .before .before .before .before .before .before .before .before .before .before .before .before .before .before .before .before .before .before .before .before .before .before .before .before .before .before .before .before .before .before .before .before .before .before .before .before .before .before .before .before .before .before .before .before .before .before .before .before .before .before .before .before .before .before .before .before .before .before .before .before .before .args in
     let m : Memory ℕ = record { store = a .store .now; lastKnownShingle = a .last-known-shingle .now; referenceCount = a .reference-count .now; location = a .location .now; indexStarts = a .index-starts .now; indexEnds = a .index-ends .now; labels = a .labels .now; labelAttributes = a .label-attributes .now; labelCount = a .label-count .now; labelStarts = a .label-starts .now; labelEnds = a .label-ends .now; attributes = a .attributes .now; attributeCount = a .attribute-count .now; attributeStarts = a .attribute-starts .now; attributeEnds = a .attribute-ends .now } in
     let p = pointStore (a .s) m in
-    let k = keeps-ready p (a .point .now) (a .label) (sym (c .before .before .before .before .before .before .before .before .before .before .before .before .before .before .before .before .before .before .before .before .before .before .before .before .before .before .before .before .before .before .before .before .before .before .before .before .before .before .before .before .before .before .before .before .before .before .before .before .before .before .before .before .before .before .before .before .before .before .before .before .before .before .before .before .before .before .before .before .before .before .before .before .pre) ∙ ap decisionMeans (c .before .before .before .before .before .before .before .before .before .before .before .before .before .before .before .before .before .before .before .before .before .before .before .before .before .before .before .before .before .before .before .before .before .before .before .before .before .before .before .before .before .before .before .before .before .before .before .before .before .before .before .before .before .before .enum-told2 .given .1)) in
+    let k = keeps-ready p (a .point .now) (a .label) (sym (c .before .before .before .before .before .before .before .before .before .before .before .before .before .before .before .before .before .before .before .before .before .before .before .before .before .before .before .before .before .before .before .before .before .before .before .before .before .before .before .before .before .before .before .before .before .before .before .before .before .before .before .before .before .before .before .before .before .before .before .before .before .before .before .before .before .before .before .before .before .before .before .before .before .pre .0) ∙ ap decisionMeans (c .before .before .before .before .before .before .before .before .before .before .before .before .before .before .before .before .before .before .before .before .before .before .before .before .before .before .before .before .before .before .before .before .before .before .before .before .before .before .before .before .before .before .before .before .before .before .before .before .before .before .before .before .before .before .before .enum-told2 .given .1)) in
     k .opened
 
 same-length : tie.Need-same-length
-same-length c = c .before .before .before .before .before .before .before .before .before .before .before .before .before .before .before .before .before .before .before .lay-row .kept .1 .0 ∙ c .before .before .before .before .before .before .before .before .before .before .before .before .before .before .before .before .before .before .before .before .before .before .before .before .before .before .before .before .before .before .before .before .before .before .before .before .before .before .before .before .before .before .before .before .before .before .before .before .before .before .before .find-room .kept .1 .0
+same-length c = c .before .before .before .before .before .before .before .before .before .before .before .before .before .before .before .before .before .before .before .lay-row .kept .1 .0 ∙ c .before .before .before .before .before .before .before .before .before .before .before .before .before .before .before .before .before .before .before .before .before .before .before .before .before .before .before .before .before .before .before .before .before .before .before .before .before .before .before .before .before .before .before .before .before .before .before .before .before .before .before .before .find-room .kept .1 .0
 
 same-length-2 : tie.Need-same-length-2
 same-length-2 c = c .before .before .before .before .before .before .before .before .before .before .before .before .before .before .before .before .before .before .before .lay-row .kept .1 .1 .0
@@ -98,7 +98,7 @@ same-length-3 : tie.Need-same-length-3
 same-length-3 c = c .before .before .before .before .before .before .before .before .before .take-index .kept .1 .0
 
 same-length-4 : tie.Need-same-length-4
-same-length-4 c = c .before .before .before .before .before .before .before .before .before .take-index .kept .1 .1 .0 ∙ c .before .before .before .before .before .before .before .before .before .before .before .before .before .before .before .before .before .before .before .before .before .before .before .before .before .before .before .before .before .before .before .before .before .before .before .before .before .before .before .before .before .before .before .before .before .before .before .before .before .before .before .find-room .kept .1 .1 .0
+same-length-4 c = c .before .before .before .before .before .before .before .before .before .take-index .kept .1 .1 .0 ∙ c .before .before .before .before .before .before .before .before .before .before .before .before .before .before .before .before .before .before .before .before .before .before .before .before .before .before .before .before .before .before .before .before .before .before .before .before .before .before .before .before .before .before .before .before .before .before .before .before .before .before .before .before .find-room .kept .1 .1 .0
 
 same-length-5 : tie.Need-same-length-5
 same-length-5 c = c .before .before .before .before .before .before .before .before .before .take-index .kept .1 .1 .1 .0
@@ -128,13 +128,13 @@ same-length-13 : tie.Need-same-length-13
 same-length-13 c = c .before .before .before .before .before .before .before .before .before .before .before .before .before .before .before .before .before .before .before .before .before .before .before .before .before .before .before .before .before .before .before .before .before .before .before .before .label-for .kept .1 .1 .1 .1 .1 .1 .1 .1 .0
 
 returns : tie.Need-returns
-returns c = let a = c .before .before .before .before .before .before .before .before .before .before .before .before .before .before .before .before .before .before .before .before .before .before .before .before .before .before .before .before .before .before .before .before .before .before .before .before .before .before .before .before .before .before .before .before .before .before .before .before .before .before .before .before .before .before .before .before .before .before .before .before .before .before .before .before .before .before .before .before .before .before .before .before .before .args in
+returns c = let a = c .before .before .before .before .before .before .before .before .before .before .before .before .before .before .before .before .before .before .before .before .before .before .before .before .before .before .before .before .before .before .before .before .before .before .before .before .before .before .before .before .before .before .before .before .before .before .before .before .before .before .before .before .before .before .before .before .before .before .before .before .before .before .before .before .before .before .before .before .before .before .before .before .before .before .args in
     let m : Memory ℕ = record { store = a .store .now; lastKnownShingle = a .last-known-shingle .now; referenceCount = a .reference-count .now; location = a .location .now; indexStarts = a .index-starts .now; indexEnds = a .index-ends .now; labels = a .labels .now; labelAttributes = a .label-attributes .now; labelCount = a .label-count .now; labelStarts = a .label-starts .now; labelEnds = a .label-ends .now; attributes = a .attributes .now; attributeCount = a .attribute-count .now; attributeStarts = a .attribute-starts .now; attributeEnds = a .attribute-ends .now } in
     let p = pointStore (a .s) m in
-    let fr = c .before .before .before .before .before .before .before .before .before .before .before .before .before .before .before .before .before .before .before .before .before .before .before .before .before .before .before .before .before .before .before .before .before .before .before .before .before .before .before .before .before .before .before .before .before .before .before .before .before .before .before .find-room in
+    let fr = c .before .before .before .before .before .before .before .before .before .before .before .before .before .before .before .before .before .before .before .before .before .before .before .before .before .before .before .before .before .before .before .before .before .before .before .before .before .before .before .before .before .before .before .before .before .before .before .before .before .before .before .before .find-room in
     let r = rowsAt (fr .result .extent .«start_free_region») (fr .result .extent .«store_length») (fr .last .1 .0) (fr .last .1 .1 .0) in
     let row = rowFrom (a .s) (a .last-known-shingle .now) (a .point .now) in
-    let fits = not-true (overflows wordsEqual (a .s) r row) (sym (fr .ensures .1 .1) ∙ c .before .before .before .before .before .before .before .before .before .before .before .before .before .before .before .before .before .before .before .before .before .before .before .before .before .before .before .before .before .before .before .before .before .before .before .before .before .before .before .before .before .before .before .before .before .if1 .taken) in
+    let fits = not-true (overflows wordsEqual (a .s) r row) (sym (fr .ensures .1 .1) ∙ c .before .before .before .before .before .before .before .before .before .before .before .before .before .before .before .before .before .before .before .before .before .before .before .before .before .before .before .before .before .before .before .before .before .before .before .before .before .before .before .before .before .before .before .before .before .before .if1 .taken) in
     let tl = c .before .before .before .before .before .before .before .before .before .before .before .before .before .before .before .before .before .before .before .before .before .before .before .before .before .before .before .before .before .before .before .before .before .before .before .before .label-for in
     let lr = c .before .before .before .before .before .before .before .before .before .before .before .before .before .before .before .before .before .before .before .lay-row in
     let po = c .before .before .before .before .before .before .before .before .before .before .before .before .before .before .place-of in
@@ -142,8 +142,8 @@ returns c = let a = c .before .before .before .before .before .before .before .b
     let kp = c .kept in
     let m′ : Memory ℕ = record { store = lr .last .1 .0; lastKnownShingle = lr .last .1 .1 .0; referenceCount = ti .last .1 .0; location = ti .last .1 .1 .0; indexStarts = ti .last .1 .1 .1 .0; indexEnds = ti .last .1 .1 .1 .1 .0; labels = tl .last .1 .0; labelAttributes = tl .last .1 .1 .0; labelCount = tl .last .1 .1 .1 .0; labelStarts = tl .last .1 .1 .1 .1 .0; labelEnds = a .label-ends .now; attributes = tl .last .1 .1 .1 .1 .1 .1 .0; attributeCount = tl .last .1 .1 .1 .1 .1 .1 .1 .0; attributeStarts = tl .last .1 .1 .1 .1 .1 .1 .1 .1 .0; attributeEnds = a .attribute-ends .now } in
     let l = labelOutcome (tl .result .label) (labelHalf (tl .result .managers) (tl .last .1 .0) (tl .last .1 .1 .0) (tl .last .1 .1 .1 .0) (tl .last .1 .1 .1 .1 .0) (a .label-ends .now) (tl .last .1 .1 .1 .1 .1 .1 .0) (tl .last .1 .1 .1 .1 .1 .1 .1 .0) (tl .last .1 .1 .1 .1 .1 .1 .1 .1 .0) (a .attribute-ends .now)) in
-    let i = indexGiven (ti .result .index) (counted (ti .result .manager) (ti .last .1 .0) (ti .last .1 .1 .1 .0) (ti .last .1 .1 .1 .1 .0)) (ti .last .1 .1 .0) in
-    acted-keep (a .d) p (a .point .now) (a .label) (c .before .before .before .before .before .before .before .before .before .before .before .before .before .before .before .before .before .before .before .before .before .before .before .before .before .before .before .before .before .before .before .before .before .before .before .before .before .before .before .before .before .before .before .before .before .before .before .before .before .before .before .before .before .before .before .enum-told2 .given .1) (outcome (addedMeans (kp .result .answer)) (pointStore (kp .result .store) m′))
+    let i = indexGiven (ti .result .index) (ti .result .free) (counted (ti .result .manager) (ti .last .1 .0) (ti .last .1 .1 .1 .0) (ti .last .1 .1 .1 .1 .0)) (ti .last .1 .1 .0) in
+    acted-keep (a .d) p (a .point .now) (a .label) (c .before .before .before .before .before .before .before .before .before .before .before .before .before .before .before .before .before .before .before .before .before .before .before .before .before .before .before .before .before .before .before .before .before .before .before .before .before .before .before .before .before .before .before .before .before .before .before .before .before .before .before .before .before .before .before .before .enum-told2 .given .1) (outcome (addedMeans (kp .result .answer)) (pointStore (kp .result .store) m′))
     (ap (λ (x : AddResult). outcome (addedMeans (x .answer)) (pointStore (x .store) m′)) (kp .ensures)
     ∙ put p (a .point .now) (a .label) r (fr .ensures .0) (fr .result .joined) l (po .result) i (lr .last .1 .1 .0) (lr .last .1 .0) (lr .result .laid) (lr .result .«start_free_region») (fr .ensures .1 .0) fits (tl .ensures) (po .ensures) (ti .ensures) (lr .ensures .0) (lr .ensures .1 .0) (lr .ensures .1 .1 .0) (lr .ensures .1 .1 .1))
 

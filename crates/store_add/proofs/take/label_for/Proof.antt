@@ -8,7 +8,7 @@ use Rattle.store_add.proofs.take.label_for.Tie as tie
 
 take-label-requires : tie.Need-take-label-requires
 take-label-requires c κs = let h = c .before .before .before .before .before .before .before .before .before .before .before .before .before .before .before .before .before .before .before .before .before .pre (c .before .before .before .before .before .before .before .before .before .if1 .taken) in
-    (h .well, (h .coded, h .some))
+    (h .well, (h .coded, (h .some, h .figures)))
 
 same-length : tie.Need-same-length
 same-length c = search needs

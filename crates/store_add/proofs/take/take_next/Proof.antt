@@ -15,7 +15,7 @@ mul-reference-count c = let a = c .before .before .before .before .before .befor
     let pre = c .before .before .before .before .before .before .before .before .pre in
     let t = counted (a .manager) (a .reference-count .now) (a .index-starts .now) (a .index-ends .now) in
     let gu = c .before .before .get-unchecked in
-    let b = index-below t (a .location .now) (gu .result .given .index) (gu .result .manager) (gu .last .1 .0) (a .index-ends .now) (gu .ensures) (pre .0) in
+    let b = index-below t (a .location .now) (gu .result .given .index) (gu .result .given .free) (gu .result .manager) (gu .last .1 .0) (a .index-ends .now) (gu .ensures) (a .free) (pre .0) in
     omega (arith, b, capacity-most (a .manager .capacity) t (pre .0 .well))
 
 slice-write-reference-count : tie.Need-slice-write-reference-count
@@ -23,7 +23,7 @@ slice-write-reference-count c = let a = c .before .before .before .before .befor
     let pre = c .before .before .before .before .before .before .before .before .pre in
     let t = counted (a .manager) (a .reference-count .now) (a .index-starts .now) (a .index-ends .now) in
     let gu = c .before .before .get-unchecked in
-    let b = index-below t (a .location .now) (gu .result .given .index) (gu .result .manager) (gu .last .1 .0) (a .index-ends .now) (gu .ensures) (pre .0) in
+    let b = index-below t (a .location .now) (gu .result .given .index) (gu .result .given .free) (gu .result .manager) (gu .last .1 .0) (a .index-ends .now) (gu .ensures) (a .free) (pre .0) in
     omega (arith, b, pre .0 .well .lent)
 
 cast-location : tie.Need-cast-location
@@ -34,7 +34,7 @@ mul-location c = let a = c .before .before .before .before .before .before .befo
     let pre = c .before .before .before .before .before .before .before .before .pre in
     let t = counted (a .manager) (a .reference-count .now) (a .index-starts .now) (a .index-ends .now) in
     let gu = c .before .before .get-unchecked in
-    let b = index-below t (a .location .now) (gu .result .given .index) (gu .result .manager) (gu .last .1 .0) (a .index-ends .now) (gu .ensures) (pre .0) in
+    let b = index-below t (a .location .now) (gu .result .given .index) (gu .result .given .free) (gu .result .manager) (gu .last .1 .0) (a .index-ends .now) (gu .ensures) (a .free) (pre .0) in
     omega (arith, b, capacity-most (a .manager .capacity) t (pre .0 .well))
 
 slice-write-location : tie.Need-slice-write-location
@@ -42,7 +42,7 @@ slice-write-location c = let a = c .before .before .before .before .before .befo
     let pre = c .before .before .before .before .before .before .before .before .pre in
     let t = counted (a .manager) (a .reference-count .now) (a .index-starts .now) (a .index-ends .now) in
     let gu = c .before .before .get-unchecked in
-    let b = index-below t (a .location .now) (gu .result .given .index) (gu .result .manager) (gu .last .1 .0) (a .index-ends .now) (gu .ensures) (pre .0) in
+    let b = index-below t (a .location .now) (gu .result .given .index) (gu .result .given .free) (gu .result .manager) (gu .last .1 .0) (a .index-ends .now) (gu .ensures) (a .free) (pre .0) in
     omega (arith, b, pre .0 .places-lent)
 
 same-length : tie.Need-same-length
@@ -59,7 +59,7 @@ returns c = let a = c .before .before .before .before .before .before .before .b
     let pre = c .before .before .before .before .before .before .before .before .before .pre in
     let t = counted (a .manager) (a .reference-count .now) (a .index-starts .now) (a .index-ends .now) in
     let gu = c .before .before .before .get-unchecked in
-    placed-is t (a .location .now) (gu .result .given .index) (gu .result .manager) (gu .last .1 .0) (a .index-ends .now) (gu .ensures) (a .place)
+    placed-is t (a .location .now) (gu .result .given .index) (gu .result .given .free) (gu .result .manager) (gu .last .1 .0) (a .index-ends .now) (gu .ensures) (a .place)
 
 pub take-next-spec : {M : Type 1} → statement M
 take-next-spec = tie.close (tie.spec get-unchecked-requires mul-reference-count slice-write-reference-count cast-location mul-location slice-write-location same-length same-length-2 same-length-3 returns)

@@ -16,7 +16,7 @@ returns : tie.Need-returns
 returns c =
     let a = c .before .before .before .before .before .before .before .before .before .before .before .before .before .before .before .before .before .args in
     let m = (held (a .store) (a .last-known-shingle) (a .reference-count) (a .location) (a .index-starts) (a .index-ends) (a .labels) (a .label-attributes) (a .label-count) (a .label-starts) (a .label-ends) (a .attributes) (a .attribute-count) (a .attribute-starts) (a .attribute-ends)) in
-    live-number-well (pointStore (a .s) m) (sym (c .before .check .ensures .0 ∙ well-formed-lengths (a .s) m) ∙ c .if1 .taken) _ (c .before .check .ensures .1 (c .if1 .taken))
+    live-number-well (pointStore (a .s) m) (sym (c .before .check .ensures .0 ∙ well-formed-lengths (a .s) m) ∙ c .if1 .taken) _ (c .before .check .ensures .1 (c .if1 .taken) .live-is)
 
 returns-2 : tie.Need-returns-2
 returns-2 c =
