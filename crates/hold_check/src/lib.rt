@@ -4,6 +4,7 @@ mod check;
 mod list;
 mod read;
 mod rise;
+mod steady;
 mod store;
 
 pub use check::HoldChecked;
