@@ -159,8 +159,7 @@ pub fn steady(
         let paired = pair.ok;
         if paired {
             if n - pair.free == held {
-                let base = s.dimensions / s.shingle_size;
-                let entries = entries_held(
+                if entries_held(
                     n,
                     pair.start,
                     pair.more,
@@ -168,17 +167,19 @@ pub fn steady(
                     pair.further,
                     reference_count,
                     location,
-                );
-                let rises = runs_rise(n, held, location, held_indices);
-                let ends = last_ends(
-                    held,
-                    base,
-                    s.dimensions,
-                    s.start_free_region,
-                    location,
-                    held_indices,
-                );
-                return entries & (rises & ends);
+                ) {
+                    if runs_rise(n, held, location, held_indices) {
+                        let base = s.dimensions / s.shingle_size;
+                        return last_ends(
+                            held,
+                            base,
+                            s.dimensions,
+                            s.start_free_region,
+                            location,
+                            held_indices,
+                        );
+                    }
+                }
             }
         }
     }

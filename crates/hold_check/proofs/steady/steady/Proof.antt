@@ -3,7 +3,6 @@ use native.Mathlib.Omega.{arith}
 use mathlib.Core.Bool.{false≢true}
 use mathlib.Core.Path.{sym, _∙_}
 use borrow.Author.Needs.{needs}
-use Rattle.terms.specs.Below.{both}
 use Rattle.interval_store_manager.specs.Sound.{free-le-capacity}
 use Rattle.store_definitions.specs.Parts.{tableLength}
 use Rattle.hold_check.specs.Steady.{steady-found}
@@ -28,17 +27,11 @@ sub-if3 c =
     let pair = c .before .before .pair-of .ensures (c .before .if2 .taken) in
     omega (arith, pair .number, free-le-capacity (tableLength (a .s)) (a .s .«index_manager» .last_in_use) (a .index-starts .now) (a .index-ends .now))
 
-div-base : tie.Need-div-base
-div-base c =
-    let start = c .before .before .before .before .before .before .before .before .before .before .before .before .before in
-    let a = start .args in
-    omega (arith, shingles (a .s) (a .reference-count .now) (a .location .now) (start .pre .0))
-
 entries-held-requires : tie.Need-entries-held-requires
 entries-held-requires c κs =
-    let start = c .before .before .before .before .before .before .before .before .before .before .before .before .before in
+    let start = c .before .before .before .before .before .before .before .before .before .before .before .before in
     let a = start .args in
-    let pair = c .before .before .before .before .pair-of .ensures (c .before .before .before .if2 .taken) in
+    let pair = c .before .before .before .pair-of .ensures (c .before .before .if2 .taken) in
     let most = table-most (a .s) (a .reference-count .now) (a .location .now) (start .pre .0) in
     (most, ((omega (arith, most, pair .first-below), omega (arith, most, pair .other-below)), (counts-room (a .s) (a .reference-count .now) (a .location .now) (start .pre .0), places-room (a .s) (a .reference-count .now) (a .location .now) (start .pre .0))))
 
@@ -48,21 +41,25 @@ runs-rise-requires c κs =
     let a = start .args in
     (table-most (a .s) (a .reference-count .now) (a .location .now) (start .pre .0), (places-room (a .s) (a .reference-count .now) (a .location .now) (start .pre .0), start .pre .1))
 
+div-base : tie.Need-div-base
+div-base c =
+    let start = c .before .before .before .before .before .before .before .before .before .before .before .before .before .before .before .before .before in
+    let a = start .args in
+    omega (arith, shingles (a .s) (a .reference-count .now) (a .location .now) (start .pre .0))
+
 last-ends-requires : tie.Need-last-ends-requires
 last-ends-requires c κs =
-    let start = c .before .before .before .before .before .before .before .before .before .before .before .before .before .before .before in
+    let start = c .before .before .before .before .before .before .before .before .before .before .before .before .before .before .before .before .before in
     let a = start .args in
     (row-most (a .s) (a .reference-count .now) (a .location .now) (start .pre .0), start .pre .1)
 
 returns : tie.Need-returns
 returns c =
-    let start = c .before .before .before .before .before .before .before .before .before .before .before .before .before .before .before .before in
+    let start = c .before .before .before .before .before .before .before .before .before .before .before .before .before .before .before .before .before .before in
     let a = start .args in
-    let pair = c .before .before .before .before .before .before .before .pair-of in
+    let pair = c .before .before .before .before .before .before .before .before .before .pair-of in
     λ t.
-    let b = both (c .before .before .entries-held .result) _ t in
-    let d = both (c .before .runs-rise .result) (c .last-ends .result) (b .1) in
-    steady-found (a .s) (a .reference-count .now) (a .location .now) (a .index-starts .now) (a .index-ends .now) (a .held-indices .now) (a .held) (pair .result .start) (pair .result .more) (pair .result .other) (pair .result .further) (pair .result .free) (start .pre .0) (start .pre .1) (pair .ensures (c .before .before .before .before .before .before .if2 .taken)) (c .before .before .before .before .if3 .taken) (sym (c .before .before .entries-held .ensures) ∙ b .0) (c .before .runs-rise .ensures (d .0)) (c .last-ends .ensures (d .1))
+        steady-found (a .s) (a .reference-count .now) (a .location .now) (a .index-starts .now) (a .index-ends .now) (a .held-indices .now) (a .held) (pair .result .start) (pair .result .more) (pair .result .other) (pair .result .further) (pair .result .free) (start .pre .0) (start .pre .1) (pair .ensures (c .before .before .before .before .before .before .before .before .if2 .taken)) (c .before .before .before .before .before .before .if3 .taken) (sym (c .before .before .before .before .before .entries-held .ensures) ∙ c .before .before .before .before .if4 .taken) (c .before .before .before .runs-rise .ensures (c .before .before .if5 .taken)) (c .last-ends .ensures t)
 
 returns-2 : tie.Need-returns-2
 returns-2 c = λ t. absurd (false≢true t)
@@ -73,5 +70,11 @@ returns-3 c = λ t. absurd (false≢true t)
 returns-4 : tie.Need-returns-4
 returns-4 c = λ t. absurd (false≢true t)
 
+returns-5 : tie.Need-returns-5
+returns-5 c = λ t. absurd (false≢true t)
+
+returns-6 : tie.Need-returns-6
+returns-6 c = λ t. absurd (false≢true t)
+
 pub steady-spec : {M : Type 1} → statement M
-steady-spec = tie.close (tie.spec lent-enough-requires pair-of-requires sub-if3 div-base entries-held-requires runs-rise-requires last-ends-requires returns returns-2 returns-3 returns-4)
+steady-spec = tie.close (tie.spec lent-enough-requires pair-of-requires sub-if3 entries-held-requires runs-rise-requires div-base last-ends-requires returns returns-2 returns-3 returns-4 returns-5 returns-6)
