@@ -59,7 +59,7 @@ returns c =
     let a = start .args in
     let pair = c .before .before .before .before .before .before .before .before .before .pair-of in
     λ t.
-        steady-found (a .s) (a .reference-count .now) (a .location .now) (a .index-starts .now) (a .index-ends .now) (a .held-indices .now) (a .held) (pair .result .start) (pair .result .more) (pair .result .other) (pair .result .further) (pair .result .free) (start .pre .0) (start .pre .1) (pair .ensures (c .before .before .before .before .before .before .before .before .if2 .taken)) (c .before .before .before .before .before .before .if3 .taken) (sym (c .before .before .before .before .before .entries-held .ensures) ∙ c .before .before .before .before .if4 .taken) (c .before .before .before .runs-rise .ensures (c .before .before .if5 .taken)) (c .last-ends .ensures t)
+    steady-found (a .s) (a .reference-count .now) (a .location .now) (a .index-starts .now) (a .index-ends .now) (a .held-indices .now) (a .held) (pair .result .start) (pair .result .more) (pair .result .other) (pair .result .further) (pair .result .free) (start .pre .0) (start .pre .1) (pair .ensures (c .before .before .before .before .before .before .before .before .if2 .taken)) (c .before .before .before .before .before .before .if3 .taken) (sym (c .before .before .before .before .before .entries-held .ensures) ∙ c .before .before .before .before .if4 .taken) (c .before .before .before .runs-rise .ensures (c .before .before .if5 .taken)) (c .last-ends .ensures t)
 
 returns-2 : tie.Need-returns-2
 returns-2 c = λ t. absurd (false≢true t)
