@@ -1,8 +1,9 @@
 -- Rows of words: equality, and what a scaled row adds to a row of sums.
-use Prim.Native.Nat.{ℕ, _^_, _≤_}
-use mathlib.Core.Path.{_≡_}
-use mathlib.Core.Bool.{Bool, false}
+use Prim.Native.Nat.{ℕ, zero, suc, _^_, _≤_}
+use mathlib.Core.Path.{_≡_, refl, ap, _∙_}
+use mathlib.Core.Bool.{Bool, true, false, _&&_, cond}
 use mathlib.Core.List.{List, [], _∷_}
+use lib.ListN.{take, drop}
 use lib.IntN.{pos}
 use lib.Ieee.{Float, binary32, add, mul, ofInt}
 use lib.Ieee.Back.{round-whole}
@@ -13,6 +14,21 @@ use Rattle.float_bits.specs.Words.{floatOf, wordsEqual}
 -- the same length, and the same word at each place
 abbrev pub rowsEqual : List ℕ → List ℕ → Bool
 rowsEqual a b = allEqual wordsEqual a b
+
+cond-and : (t p q : Bool) → cond t (p && q) false ≡ (cond t p false && q)
+cond-and true p q = refl
+cond-and false p q = refl
+
+-- two rows of any element are equal where their first n are, and the others
+pub all-equal-split : {E : Type 0} (eq : E → E → Bool) (n : ℕ) (a b : List E) → allEqual eq a b ≡ (allEqual eq (take n a) (take n b) && allEqual eq (drop n a) (drop n b))
+unfolding allEqual
+all-equal-split eq zero a b = refl
+all-equal-split eq (suc n) [] [] = refl
+all-equal-split eq (suc n) [] (y ∷ ys) = refl
+all-equal-split eq (suc n) (x ∷ xs) [] = refl
+all-equal-split eq (suc n) (x ∷ xs) (y ∷ ys) =
+    ap (λ (t : Bool). cond (eq x y) t false) (all-equal-split eq n xs ys)
+    ∙ cond-and (eq x y) (allEqual eq (take n xs) (take n ys)) (allEqual eq (drop n xs) (drop n ys))
 
 -- each element of the first list with its element of the second taken in; where the second ends, the first is left as it is
 unfoldable pub zipInto : {S E : Type 0} → (S → E → S) → List S → List E → List S

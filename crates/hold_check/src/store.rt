@@ -1,4 +1,5 @@
-// The check of a hold's store: as `store_check` does it, but that the hold's list may show places to be distinct.
+// The check of a hold's store: as `store_check` does it, but that a hold as its own calls leave it needs no marks, and that places which rise
+// along the list are distinct.
 ghost use mathlib.Core.Bool.{true, _&&_};
 ghost use mathlib.Core.Path.{_≡_};
 ghost use Prim.Native.Nat.{_≤_};
