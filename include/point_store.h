@@ -79,8 +79,8 @@ extern "C" {
 /* The version of this header. ps_version_agrees() tells whether the archive has the same. */
 #define PS_VERSION_MAJOR 0
 #define PS_VERSION_MINOR 10
-#define PS_VERSION_PATCH 0
-#define PS_VERSION "0.10.0"
+#define PS_VERSION_PATCH 1
+#define PS_VERSION "0.10.1"
 
 /* The sizes that the declarations below rely on; where one differs, the line does not compile. */
 typedef char ps_size_t_has_8_bytes[sizeof(size_t) == 8 ? 1 : -1];

@@ -18,10 +18,6 @@ const INFINITY: FloatBits = 0x7f80_0000;
 // The word that stands for a NaN that was computed.
 const NAN: FloatBits = 0x7fc0_0000;
 
-// How many words of a row are compared before the answer is looked at: the longest row, since the vector loop is faster than an early
-// exit from it.
-const BLOCK: usize = 64;
-
 pub fn is_nan_word(w: FloatBits) -> bool
     ensures { λ r. ⌜ r ≡ nanWord w ⌝ }
 {
@@ -44,8 +40,9 @@ pub fn word_of_float(x: f32) -> FloatBits
     if x != x { NAN } else { f32::to_bits(x) }
 }
 
-// With no early exit, so that it is compiled to vector code.
-fn block_equal(a: &[FloatBits], b: &[FloatBits]) -> bool
+// The same word at every place of two rows. With no early exit: a row has at most 64 words, and the vector loop over all of them is faster
+// than a way out of it.
+pub fn rows_equal(a: &[FloatBits], b: &[FloatBits]) -> bool
     requires { ⌜ length (now a) ≡ length (now b) ⌝ }
     ensures { λ r. ⌜ r ≡ rowsEqual (now (a .entry)) (now (b .entry)) ⌝ }
 {
@@ -56,34 +53,6 @@ fn block_equal(a: &[FloatBits], b: &[FloatBits]) -> bool
         i += 1;
     }
     equal
-}
-
-// Where the block that starts at `from` ends: after a whole block, or with the row.
-fn block_end(from: usize, length: usize) -> usize
-    requires { ⌜ from < length ⌝ }
-    ensures { λ r. ⌜ (from < r) × (r ≤ length) ⌝ }
-{
-    if length - from > BLOCK {
-        from + BLOCK
-    } else {
-        length
-    }
-}
-
-// The same word at every place of two rows.
-pub fn rows_equal(a: &[FloatBits], b: &[FloatBits]) -> bool
-    requires { ⌜ length (now a) ≡ length (now b) ⌝ }
-    ensures { λ r. ⌜ r ≡ rowsEqual (now (a .entry)) (now (b .entry)) ⌝ }
-{
-    let mut i = 0;
-    while i < a.len() {
-        let end = block_end(i, a.len());
-        if !block_equal(&a[i..end], &b[i..end]) {
-            return false;
-        }
-        i = end;
-    }
-    true
 }
 
 // To each sum its float of the row times the weight: the product is rounded, then the sum.

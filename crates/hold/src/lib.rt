@@ -23,6 +23,7 @@ use hold_definitions::HoldAddResult;
 use keep::given_by;
 use keep::keep_point;
 use store_add::add_unchecked;
+use store_add::with_changes;
 use store_check::Figures;
 use store_definitions::Added;
 use terms::FloatBits;
@@ -56,7 +57,7 @@ fn add_checked(
     ensures { λ r. ⌜ holdOutcome (addedMeans (r .answer)) (pointHold (r .hold) (holdLeft store «last_known_shingle» «reference_count» location «index_starts» «index_ends» labels «label_attributes» «label_count» «label_starts» «label_ends» attributes «attribute_count» «attribute_starts» «attribute_ends» «held_indices» «held_labels»)) ≡ holdAdded (pointHold h (holdEntered store «last_known_shingle» «reference_count» location «index_starts» «index_ends» labels «label_attributes» «label_count» «label_starts» «label_ends» attributes «attribute_count» «attribute_starts» «attribute_ends» «held_indices» «held_labels»)) (addSpec wordsEqual 0 (pointStore (h .store) (entered store «last_known_shingle» «reference_count» location «index_starts» «index_ends» labels «label_attributes» «label_count» «label_starts» «label_ends» attributes «attribute_count» «attribute_starts» «attribute_ends»)) (now (point .entry)) label) ⌝ }
 {
     let s = h.store;
-    let added = add_unchecked(
+    let changes = add_unchecked(
         s,
         store,
         last_known_shingle,
@@ -77,8 +78,8 @@ fn add_checked(
         label,
         figures,
     );
-    let after = added.store;
-    let answer = added.answer;
+    let after = with_changes(s, changes);
+    let answer = changes.answer;
     let given = given_by(answer);
     let hold = keep_point(
         h,

@@ -2,3 +2,4 @@ mod MarkLaws
 mod TestLaws
 mod RiseLaws
 mod StoreLaws
+mod SteadyLaws

@@ -12,7 +12,7 @@ use mir.Val.{boolByte}
 use borrow.Author.Tests.{ltb-true, ltb-false, leb-true, lt-leb, eqb-true}
 use Rattle.terms.specs.Below.{one, both, sumBelow, countBelow}
 use Rattle.hold_check.specs.Rising.{Rises, rises-more}
-use Rattle.hold_check.specs.Runs.{runsListed, falls, fallsBefore, runs-rise}
+use Rattle.hold_check.specs.Runs.{runsListed, falls, fallsBefore, RunsRise, runs-rise}
 
 pub fall-most : (b : Bool) → boolByte b ≤ 1
 fall-most true = omega arith
@@ -46,7 +46,7 @@ module _ (n held first end : ℕ) (location list : List ℕ) (some : 1 ≤ held)
   over-seam : seamed ≡ true → end < first + held → getD location (end - 1) 0 < getD location 0 0
   over-seam t l = ltb-true (getD location (end - 1) 0) (getD location 0 0) (rw (lt-leb (first + held) end l) at t)
 
-  pub runs-tested : (listed fall : Bool) (count : ℕ) → listed ≡ runsListed held first end list → count ≡ countBelow (end - 1) (falls location) → fall ≡ fallsBefore first location → ((listed && eqb count (boolByte fall)) && (seamed && ltb (getD location (getD list (held - 1) 0) 0) 65535)) ≡ true → Rises n 65535 location (take held list)
+  pub runs-tested : (listed fall : Bool) (count : ℕ) → listed ≡ runsListed held first end list → count ≡ countBelow (end - 1) (falls location) → fall ≡ fallsBefore first location → ((listed && eqb count (boolByte fall)) && (seamed && ltb (getD location (getD list (held - 1) 0) 0) 65535)) ≡ true → RunsRise n held location list
   runs-tested listed fall count e f g t =
       let b = both (listed && eqb count (boolByte fall)) (seamed && ltb (getD location (getD list (held - 1) 0) 0) 65535) t in
       let runs = both listed (eqb count (boolByte fall)) (b .0) in

@@ -13,7 +13,7 @@ use Rattle.store_definitions.specs.WellFormed.{emptyUncounted, placesDistinct, 
 use Rattle.class_table.specs.Table.{tableAllowed}
 use Rattle.store_check.specs.CheckLaws.{recordTest, numbersTest, record-parts}
 use Rattle.store_check.specs.PointsTest.{tableTest, TableFound}
-use Rattle.hold_check.specs.Rising.{Rises, ListRises, rising-distinct, rising-listed}
+use Rattle.hold_check.specs.Rising.{Rises, singleCounts, ListKnown, rising-distinct, rising-listed}
 
 pub record-tested : (s : Store) (floats window counts places starts ends : ℕ) (table numbers : Bool) {b : Bool} → table ≡ tableAllowed (s .classes) → numbers ≡ numbersTest s floats window counts places starts ends → (table && numbers) ≡ b → recordTest s floats window counts places starts ends ≡ b
 record-tested s floats window counts places starts ends table numbers e f t =
@@ -40,9 +40,12 @@ module _ (s : Store) (counts location starts ends : List ℕ) where
         rising-distinct n counts location (take held list) (r t .1) lent (table-empty (sym (f .is) ∙ w))
         (length-take-le held list room ∙ r t .0 ∙ f .live-is w)
 
-    pub list-rises : ListRises n held live counts list rises
-    list-rises t = (
-      r t .0,
-      rising-listed n counts location (take held list) (r t .1) lent (table-empty (sym (f .is) ∙ w))
-          (length-take-le held list room ∙ r t .0 ∙ f .live-is w),
-    )
+    pub list-known : (listed : Bool) → listed ≡ (rises && singleCounts n counts) → ListKnown n held live counts list listed
+    list-known listed e t =
+        let b = both rises (singleCounts n counts) (sym e ∙ t) in (
+          r (b .0) .0,
+          sym
+              (rising-listed n counts location (take held list) (r (b .0) .1) lent (table-empty (sym (f .is) ∙ w))
+              (length-take-le held list room ∙ r (b .0) .0 ∙ f .live-is w))
+              ∙ b .1,
+        )

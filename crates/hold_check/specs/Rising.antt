@@ -75,9 +75,9 @@ module _ (n bound : ℕ) (location xs : List ℕ) (r : Rises n bound location xs
 unfoldable pub singleCounts : ℕ → List ℕ → Bool
 singleCounts n counts = everyBelow n (λ i. ltb (getD counts i 0) 2)
 
--- what such a list leaves to ask: the counts
-abbrev pub ListRises : (n held live : ℕ) → (counts list : List ℕ) → Bool → Type 0
-ListRises n held live counts list rises = rises ≡ true → (held ≡ live) × (singleCounts n counts ≡ listedOnce n counts (take held list))
+-- the list is known to name each live point once, each with count 1
+abbrev pub ListKnown : (n held live : ℕ) → (counts list : List ℕ) → Bool → Type 0
+ListKnown n held live counts list listed = listed ≡ true → (held ≡ live) × (listedOnce n counts (take held list) ≡ true)
 
 module _ (n : ℕ) (counts location xs : List ℕ) (r : Rises n 65535 location xs) (lent : n ≤ length location) (empty : emptyUncounted n counts location ≡ true) (all : length xs ≡ countsLive n counts) where
   abbrev alive : ℕ → ℕ
@@ -109,7 +109,8 @@ module _ (n : ℕ) (counts location xs : List ℕ) (r : Rises n 65535 location x
   unfolding countsLive countBelow
   all-named i l = sum-tight n (λ k. times k xs) alive (λ k m. named-alive k) (sum-times n xs (r .below) ∙ all) i l
 
-  named : (i : ℕ) → i < n → (getD location i 0 ≡ 65535 → ⊥) → 0 < times i xs
+  -- an index with a place is on the list
+  pub named : (i : ℕ) → i < n → (getD location i 0 ≡ 65535 → ⊥) → 0 < times i xs
   named i l d = let e = rw (counted i l d) at (all-named i l) in omega (arith, e)
 
   pair-apart : (i j : ℕ) → i < n → j < i → (not (eqb (getD location i 65535) (getD location j 65535)) || eqb (getD location i 65535) 65535) ≡ true

@@ -12,7 +12,7 @@ use lib.Seq.{take-suc}
 use lib.Dec.{ltb, leb, eqb}
 use borrow.Author.Tests.{eqb-true, leb-false, lt-ltb, le-ltb, le-leb, lt-leb}
 use Rattle.terms.specs.Below.{one, everyBelow, every-at, sumBelow, countBelow, fails, below-or-last}
-use Rattle.hold_check.specs.Rising.{Rises, rises-none, rises-more, rises-within}
+use Rattle.hold_check.specs.Rising.{Rises, rises-none, rises-more}
 
 -- indices are counted on from 0 after the end
 unfoldable pub turned : (end at : ℕ) → ℕ
@@ -27,6 +27,12 @@ falls location i = leb (getD location (i + 1) 0) (getD location i 0)
 
 abbrev pub fallsBefore : ℕ → List ℕ → Bool
 fallsBefore first location = leb 1 first && leb (getD location first 0) (getD location (first - 1) 0)
+
+-- places rise along a list that is not empty, up to that of its last entry
+pub record RunsRise (n held : ℕ) (location list : List ℕ) : Type 0 where
+  pub some : 1 ≤ held
+  pub top : getD location (getD list (held - 1) 0) 0 < 65535
+  pub rises : Rises n (getD location (getD list (held - 1) 0) 0 + 1) location (take held list)
 
 -- a test that holds somewhere is counted once, one that holds at two places twice
 count-one : (n : ℕ) (p : ℕ → Bool) (i : ℕ) → i < n → p i ≡ true → 1 ≤ countBelow n p
@@ -136,8 +142,7 @@ module _ (n held first end : ℕ) (location list : List ℕ) (some : 1 ≤ held)
       rw (take-suc list (suc k) 0 (omega arith))
       (rises-more n (place (entry k) + 1) location (take (suc k) list) (up k (omega arith)) (entry (suc k)) (entry-below (suc k) l) (omega (arith, step k l)))
 
-  pub runs-rise : Rises n 65535 location (take held list)
+  pub runs-rise : RunsRise n held location list
   runs-rise =
       let whole : suc (held - 1) ≡ held = omega arith in
-      rises-within n (place (entry (held - 1)) + 1) location (take held list)
-      (rw whole at (up (held - 1) (omega arith))) 65535 (omega (arith, top))
+      record { some = some; top = top; rises = rw whole at (up (held - 1) (omega arith)) }

@@ -100,7 +100,7 @@ pub fn check_hold(
         if well {
             let figures = checked.figures;
             let ok = list_well(
-                checked.rises,
+                checked.listed,
                 figures.live,
                 h.held,
                 s.index_manager.capacity,

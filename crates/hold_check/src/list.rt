@@ -6,7 +6,7 @@ ghost use lib.ListN.{length, take};
 ghost use lib.Dec.{eqb};
 ghost use Rattle.hold_check.specs.ListedOnce.{listedOnce, entryListed, entryMarked, NoMarks};
 ghost use Rattle.hold_check.specs.CheckLaws.{listHolds};
-ghost use Rattle.hold_check.specs.Rising.{singleCounts, ListRises};
+ghost use Rattle.hold_check.specs.Rising.{singleCounts, ListKnown};
 
 // Marks an entry that is below the limit, and says whether it has count 1 and was not marked yet.
 fn mark_entry(limit: usize, entry: usize, counts: &[u16], marks: &mut [bool]) -> bool
@@ -65,7 +65,7 @@ fn listed_once(limit: usize, held: usize, counts: &[u16], list: &[u16]) -> bool
 }
 
 // Whether no count is above 1.
-fn counts_single(n: usize, counts: &[u16]) -> bool
+pub fn counts_single(n: usize, counts: &[u16]) -> bool
     requires { ⌜ n ≤ length (now counts) ⌝ }
     ensures { λ r. ⌜ r ≡ singleCounts n (now (counts .entry)) ⌝ }
 {
@@ -78,20 +78,20 @@ fn counts_single(n: usize, counts: &[u16]) -> bool
     ok
 }
 
-// The points' list, with how many points are live. Where places rise along it only the counts are left to ask.
+// The points' list, with how many points are live. Where it is known already nothing is left to ask.
 fn points_once(
-    rises: bool,
+    listed: bool,
     live: usize,
     held: usize,
     n: usize,
     counts: &[u16],
     list: &[u16],
 ) -> bool
-    requires { ⌜ ListRises n held live (now counts) (now list) rises × ((n ≤ 1024) × ((n ≤ length (now counts)) × (held ≤ length (now list)))) ⌝ }
+    requires { ⌜ ListKnown n held live (now counts) (now list) listed × ((n ≤ 1024) × ((n ≤ length (now counts)) × (held ≤ length (now list)))) ⌝ }
     ensures { λ r. ⌜ r ≡ (listedOnce n (now (counts .entry)) (take held (now (list .entry))) && eqb held live) ⌝ }
 {
-    if rises {
-        return counts_single(n, counts);
+    if listed {
+        return true;
     }
     if held == live {
         return listed_once(n, held, counts, list);
@@ -101,7 +101,7 @@ fn points_once(
 
 // The points' list; the labels' with labels on.
 pub fn list_well(
-    rises: bool,
+    listed: bool,
     live: usize,
     held: usize,
     n: usize,
@@ -112,10 +112,10 @@ pub fn list_well(
     held_indices: &[u16],
     held_labels: &[u16],
 ) -> bool
-    requires { ⌜ ListRises n held live (now «reference_count») (now «held_indices») rises × (((n ≤ 1024) × ((n ≤ length (now «reference_count»)) × (held ≤ length (now «held_indices»)))) × ((«store_labels» ≡ true → (capacity ≤ 1024) × ((capacity ≤ length (now «label_count»)) × (held ≤ length (now «held_labels»)))))) ⌝ }
+    requires { ⌜ ListKnown n held live (now «reference_count») (now «held_indices») listed × (((n ≤ 1024) × ((n ≤ length (now «reference_count»)) × (held ≤ length (now «held_indices»)))) × ((«store_labels» ≡ true → (capacity ≤ 1024) × ((capacity ≤ length (now «label_count»)) × (held ≤ length (now «held_labels»)))))) ⌝ }
     ensures { λ r. ⌜ r ≡ listHolds live held n capacity «store_labels» (now («reference_count» .entry)) (now («label_count» .entry)) (now («held_indices» .entry)) (now («held_labels» .entry)) ⌝ }
 {
-    if points_once(rises, live, held, n, reference_count, held_indices) {
+    if points_once(listed, live, held, n, reference_count, held_indices) {
         if store_labels {
             return listed_once(capacity, held, label_count, held_labels);
         }

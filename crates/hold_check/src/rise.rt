@@ -7,7 +7,7 @@ ghost use lib.ListN.{length, getD, take};
 ghost use lib.Dec.{ltb, leb};
 ghost use Rattle.terms.specs.Below.{everyBelow, countBelow};
 ghost use Rattle.hold_check.specs.Rising.{Rises};
-ghost use Rattle.hold_check.specs.Runs.{turned, runsListed, falls, fallsBefore};
+ghost use Rattle.hold_check.specs.Runs.{turned, runsListed, falls, fallsBefore, RunsRise};
 
 // Whether the first `held` entries are below n.
 fn listed_below(n: u16, held: usize, list: &[u16]) -> bool
@@ -109,9 +109,9 @@ fn runs_end(held: usize, first: usize, last: usize) -> usize
 
 // Whether the list is at most two runs of indices, the second from 0, and places rise along it. So it is where each add took the index
 // that the one before gave up; then no place is looked up through the list.
-fn runs_rise(n: usize, held: usize, location: &[u16], list: &[u16]) -> bool
+pub fn runs_rise(n: usize, held: usize, location: &[u16], list: &[u16]) -> bool
     requires { ⌜ (n ≤ 1024) × ((n ≤ length (now location)) × (held ≤ length (now list))) ⌝ }
-    ensures { λ r. ⌜ (r ≡ true → Rises n 65535 (now (location .entry)) (take held (now (list .entry)))) ⌝ }
+    ensures { λ r. ⌜ (r ≡ true → RunsRise n held (now (location .entry)) (now (list .entry))) ⌝ }
 {
     if (1 <= held) & (held <= n) {
         let first = list[0] as usize;
@@ -128,15 +128,12 @@ fn runs_rise(n: usize, held: usize, location: &[u16], list: &[u16]) -> bool
     false
 }
 
-// The same where the list is as long as there are live points.
+// Whether the list is as long as there are live points, and places rise along it.
 pub fn live_rise(live: usize, n: usize, held: usize, location: &[u16], list: &[u16]) -> bool
     requires { ⌜ (n ≤ 1024) × ((n ≤ length (now location)) × (held ≤ length (now list))) ⌝ }
     ensures { λ r. ⌜ (r ≡ true → (held ≡ live) × Rises n 65535 (now (location .entry)) (take held (now (list .entry)))) ⌝ }
 {
     if held == live {
-        if runs_rise(n, held, location, list) {
-            return true;
-        }
         return places_rise(n, held, location, list);
     }
     false

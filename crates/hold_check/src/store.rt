@@ -1,5 +1,6 @@
-// The check of a hold's store: as `store_check` does it, but that the hold's list may show places to be distinct.
-ghost use mathlib.Core.Bool.{true};
+// The check of a hold's store: as `store_check` does it, but that a hold as its own calls leave it needs no marks, and that places which rise
+// along the list are distinct.
+ghost use mathlib.Core.Bool.{true, _&&_};
 ghost use mathlib.Core.Path.{_≡_};
 ghost use Prim.Native.Nat.{_≤_};
 ghost use lib.ListN.{length};
@@ -10,8 +11,10 @@ ghost use Rattle.store_check.specs.Entries.{countsLive, PlacesBelow};
 ghost use Rattle.store_check.specs.Figures.{FiguresOf};
 ghost use Rattle.store_check.specs.PointsTest.{pointsTest, PointsReady};
 ghost use Rattle.store_check.specs.Tables.{tablesAtEntry};
-ghost use Rattle.hold_check.specs.Rising.{ListRises};
+ghost use Rattle.hold_check.specs.Rising.{singleCounts, ListKnown};
+use crate::list::counts_single;
 use crate::rise::live_rise;
+use crate::steady::steady;
 use class_table::table_allowed;
 use label_check::labels_well_formed;
 use labels::LabelManagers;
@@ -23,18 +26,19 @@ use store_check::places_distinct;
 use store_check::table_well;
 use store_definitions::Store;
 
-// What is found: whether the store is well-formed, and then what was counted and whether places rise along the list.
+// What is found: whether the store is well-formed, and then what was counted and whether the list is known to name each live point once,
+// each with count 1.
 pub struct StoreListed {
     pub ok: bool,
     pub figures: Figures,
-    pub rises: bool,
+    pub listed: bool,
 }
 
 // The same of the points alone.
 struct PointsListed {
     ok: bool,
     live: usize,
-    rises: bool,
+    listed: bool,
 }
 
 // Places that rise are distinct; others are held against each other with marks.
@@ -48,6 +52,17 @@ fn distinct(rises: bool, n: usize, limit: usize, location: &[u16]) -> bool
     places_distinct(n, limit, location)
 }
 
+// Where places rise along the list only the counts are left to ask.
+fn rising_single(rises: bool, n: usize, reference_count: &[u16]) -> bool
+    requires { ⌜ n ≤ length (now «reference_count») ⌝ }
+    ensures { λ r. ⌜ r ≡ (rises && singleCounts n (now («reference_count» .entry))) ⌝ }
+{
+    if rises {
+        return counts_single(n, reference_count);
+    }
+    false
+}
+
 fn points_listed(
     s: Store,
     reference_count: &[u16],
@@ -58,24 +73,40 @@ fn points_listed(
     held_indices: &[u16],
 ) -> PointsListed
     requires { ⌜ PointsReady s (now «reference_count») (now location) × (held ≤ length (now «held_indices»)) ⌝ }
-    ensures { λ r. ⌜ (r .ok ≡ pointsTest s (now («reference_count» .entry)) (now (location .entry)) (now («index_starts» .entry)) (now («index_ends» .entry))) × ((r .ok ≡ true → (r .live ≡ countsLive (tableLength s) (now («reference_count» .entry))) × ListRises (tableLength s) held (r .live) (now («reference_count» .entry)) (now («held_indices» .entry)) (r .rises))) ⌝ }
+    ensures { λ r. ⌜ (r .ok ≡ pointsTest s (now («reference_count» .entry)) (now (location .entry)) (now («index_starts» .entry)) (now («index_ends» .entry))) × ((r .ok ≡ true → (r .live ≡ countsLive (tableLength s) (now («reference_count» .entry))) × ListKnown (tableLength s) held (r .live) (now («reference_count» .entry)) (now («held_indices» .entry)) (r .listed))) ⌝ }
 {
+    if steady(
+        s,
+        reference_count,
+        location,
+        index_starts,
+        index_ends,
+        held,
+        held_indices,
+    ) {
+        return PointsListed {
+            ok: true,
+            live: held,
+            listed: true,
+        };
+    }
     let table = table_well(s, reference_count, location, index_starts, index_ends);
     let well = table.ok;
     if well {
         let n = s.index_manager.capacity;
         let rises = live_rise(table.live, n, held, location, held_indices);
         let ok = distinct(rises, n, table.limit, location);
+        let listed = rising_single(rises, n, reference_count);
         return PointsListed {
             ok,
             live: table.live,
-            rises,
+            listed,
         };
     }
     PointsListed {
         ok: false,
         live: 0,
-        rises: false,
+        listed: false,
     }
 }
 
@@ -100,7 +131,7 @@ pub fn store_well(
     held_indices: &[u16],
 ) -> StoreListed
     requires { ⌜ held ≤ length (now «held_indices») ⌝ }
-    ensures { λ r. ⌜ (r .ok ≡ wellFormed (pointStore s (tablesAtEntry floats window «reference_count» location «index_starts» «index_ends» labels «label_attributes» «label_count» «label_starts» «label_ends» attributes «attribute_count» «attribute_starts» «attribute_ends»))) × ((r .ok ≡ true → FiguresOf (r .figures) (pointStore s (tablesAtEntry floats window «reference_count» location «index_starts» «index_ends» labels «label_attributes» «label_count» «label_starts» «label_ends» attributes «attribute_count» «attribute_starts» «attribute_ends»)) × ListRises (tableLength s) held (r .figures .live) (now («reference_count» .entry)) (now («held_indices» .entry)) (r .rises))) ⌝ }
+    ensures { λ r. ⌜ (r .ok ≡ wellFormed (pointStore s (tablesAtEntry floats window «reference_count» location «index_starts» «index_ends» labels «label_attributes» «label_count» «label_starts» «label_ends» attributes «attribute_count» «attribute_starts» «attribute_ends»))) × ((r .ok ≡ true → FiguresOf (r .figures) (pointStore s (tablesAtEntry floats window «reference_count» location «index_starts» «index_ends» labels «label_attributes» «label_count» «label_starts» «label_ends» attributes «attribute_count» «attribute_starts» «attribute_ends»)) × ListKnown (tableLength s) held (r .figures .live) (now («reference_count» .entry)) (now («held_indices» .entry)) (r .listed))) ⌝ }
 {
     let lent = Lengths {
         floats,
@@ -155,7 +186,7 @@ pub fn store_well(
                         live: points.live,
                         free,
                     },
-                    rises: points.rises,
+                    listed: points.listed,
                 };
             }
             return StoreListed {
@@ -167,7 +198,7 @@ pub fn store_well(
                         slots: 0,
                     },
                 },
-                rises: points.rises,
+                listed: points.listed,
             };
         }
     }
@@ -180,6 +211,6 @@ pub fn store_well(
                 slots: 0,
             },
         },
-        rises: false,
+        listed: false,
     }
 }

@@ -10,7 +10,7 @@ use terms::refusal_number;
 // One line of ASCII, without an end. The compiler keeps an array in pieces of 16 bytes: a text as long as whole pieces stands in the
 // archive as it reads here, for `strings` to find (`make check` looks), so spaces fill one up that is not.
 const NAME: [u8; 80] =
-    *b"point store 0.10.0; requests: 1-8; port of krcf pointstore.rs 05b18fcda4; x86-64";
+    *b"point store 0.10.1; requests: 1-8; port of krcf pointstore.rs 05b18fcda4; x86-64";
 
 fn copy_text(text: &[u8], out: &mut [u8])
     requires { ⌜ length (now text) ≤ length (now out) ⌝ }

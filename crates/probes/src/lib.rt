@@ -26,6 +26,7 @@ use probes_definitions::Probes;
 use probes_definitions::ProbesSetResult;
 use probes_definitions::Reading;
 use store_add::add_unchecked;
+use store_add::with_changes;
 use store_check::Figures;
 use store_definitions::Added;
 use terms::FloatBits;
@@ -59,7 +60,7 @@ fn set_filled(
 {
     let s = p.store;
     let filled = filled_words(s.dimensions, last_known_shingle, kinds, words);
-    let added = add_unchecked(
+    let changes = add_unchecked(
         s,
         store,
         last_known_shingle,
@@ -80,8 +81,8 @@ fn set_filled(
         label,
         figures,
     );
-    let store = added.store;
-    let answer = added.answer;
+    let store = with_changes(s, changes);
+    let answer = changes.answer;
     let accepted = is_accepted(answer);
     let counted = p.tallies;
     let tallies = tallies_after(accepted, counted, kinds);

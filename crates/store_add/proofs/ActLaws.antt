@@ -11,10 +11,9 @@ use lib.Dec.{eqb}
 use borrow.Author.Tests.{eq-eqb, ne-eqb, ltb-false}
 use Rattle.terms.specs.Below.{positive}
 use Rattle.terms.specs.declared.Refusal.{Refusal}
-use Rattle.terms.specs.Refusals.{number}
 use Rattle.float_bits.specs.Words.{wordsEqual}
 use Rattle.interval_store_manager.specs.Answers.{Outcome as ManagerOutcome}
-use Rattle.interval_store_manager.specs.Calls.{Decided, go, refuse, changed}
+use Rattle.interval_store_manager.specs.Calls.{Decided, go, refuse, changed as managerChanged}
 use Rattle.placement.specs.declared.Laid.{Laid}
 use Rattle.placement.specs.Growth.{grown, grown-within}
 use Rattle.placement.specs.Laying.{writtenCount, laidAs, laidElements, laidFree, placeOf}
@@ -26,9 +25,9 @@ use Rattle.labels.specs.Decisions.{none, codeDecided, roomDecided}
 use Rattle.labels.specs.Labels.{LabelTaken, labelTaken}
 use Rattle.labels.specs.Sound.{sound-make as labels-sound-make}
 use Rattle.store_definitions.specs.declared.Store.{Store}
-use Rattle.store_definitions.specs.Memory.{Memory, PointStore, pointStore}
+use Rattle.store_definitions.specs.Memory.{PointStore, pointStore}
 use Rattle.store_definitions.specs.Parts.{baseOf, extraOf, tableLength, Rows, rowsOf, withRows, withPoints, withLabels, withWindow, pointTable, labelHalf}
-use Rattle.store_definitions.specs.Answers.{kept, waiting, refused, Outcome, outcome}
+use Rattle.store_definitions.specs.Answers.{kept, refused, addedMeans, Outcome, outcome}
 use Rattle.store_definitions.specs.Decisions.{andThen, refuseIf, formDecided}
 use Rattle.store_definitions.specs.Rows.{roomMade}
 use Rattle.store_definitions.specs.Adding.{pointLength, waits, tableFull, entriesFilled, AddDecided, keep, wait, refuseAdd, thenAdd, addDecided, windowAfter, sequenced, rowOf, labelGiven, labelled, tableGrown, placed, joins, overflows, laidRows, laidHow, keptAfter, indexGiven as givenIndex, freeLeft, keeps, addCarriedOut, addSpec}
@@ -45,7 +44,8 @@ use Rattle.store_check.specs.declared.Figures.{Figures}
 use Rattle.store_check.specs.Figures.{FiguresOf, counts-live}
 use Rattle.store_add.specs.declared.AddDecision.{AddDecision}
 use Rattle.store_add.specs.declared.AddDecision.the-variants as atDecision
-use Rattle.store_add.specs.Answering.{SequenceOpen, countedStore}
+use Rattle.store_add.specs.declared.changes.AddChanges.{AddChanges}
+use Rattle.store_add.specs.Answering.{SequenceOpen, changed, unchangedAdd, waitedAdd}
 use Rattle.store_add.specs.Deciding.{decisionMeans, asked-ill}
 use Rattle.store_add.specs.Pieces.{windowMoved, rowFrom, labelFor, grownTable, grownPlaces, IndexGiven, indexPlaced, indexFor}
 use Rattle.store_add.specs.Requires.{Roomy, Rowed, Labelled, IndexReady}
@@ -224,7 +224,7 @@ module _ (p : PointStore ℕ) where
   longer = grown (tableLength (p .header)) 1 (p .header .capacity)
 
   abbrev o : ManagerOutcome
-  o = changed (p .header .«index_manager») (p .memory .indexStarts) (p .memory .indexEnds) longer
+  o = managerChanged (p .header .«index_manager») (p .memory .indexStarts) (p .memory .indexEnds) longer
 
   abbrev u : Counted
   u = counted (o .manager) (entriesFilled (tableLength (p .header)) longer 0 (p .memory .referenceCount)) (o .starts) (o .ends)
@@ -310,12 +310,12 @@ module _ (p : PointStore ℕ) (point : List ℕ) (code : ℕ) where
 
 -- the three decisions carried out
 module _ (d : AddDecision) (p : PointStore ℕ) (point : List ℕ) (code : ℕ) where
-  pub acted-refuse : (why : Refusal) → d ≡ atDecision.Refuse why → outcome (refused (number why)) p ≡ addCarriedOut wordsEqual 0 (decisionMeans d) p point code
-  acted-refuse why e = rw e
+  pub acted-refuse : (why : Refusal) → d ≡ atDecision.Refuse why → (c : AddChanges) → c ≡ unchangedAdd (p .header) why → outcome (addedMeans (c .answer)) (pointStore (changed (p .header) c) (p .memory)) ≡ addCarriedOut wordsEqual 0 (decisionMeans d) p point code
+  acted-refuse why e c h = rw (e, h)
 
-  pub acted-wait : d ≡ atDecision.Wait → (s : Store) (window : List ℕ) → s ≡ countedStore (p .header) → window ≡ windowMoved (p .header) (p .memory .lastKnownShingle) point → outcome waiting (pointStore s (withWindow window 0 p .memory)) ≡ addCarriedOut wordsEqual 0 (decisionMeans d) p point code
+  pub acted-wait : d ≡ atDecision.Wait → (c : AddChanges) (window : List ℕ) → c ≡ waitedAdd (p .header) → window ≡ windowMoved (p .header) (p .memory .lastKnownShingle) point → outcome (addedMeans (c .answer)) (pointStore (changed (p .header) c) (withWindow window 0 p .memory)) ≡ addCarriedOut wordsEqual 0 (decisionMeans d) p point code
   unfolding sequenced windowAfter windowMoved
-  acted-wait e s window h g = rw (e, h, g)
+  acted-wait e c window h g = rw (e, h, g)
 
   pub acted-keep : d ≡ atDecision.Keep → (o : Outcome ℕ) → o ≡ keeps wordsEqual 0 p point code → o ≡ addCarriedOut wordsEqual 0 (decisionMeans d) p point code
   acted-keep e o h = rw e h

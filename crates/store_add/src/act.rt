@@ -8,36 +8,22 @@ ghost use Rattle.store_definitions.specs.Answers.{addedMeans, outcome};
 ghost use Rattle.store_definitions.specs.Lent.{held, entered, left};
 ghost use Rattle.store_definitions.specs.Memory.{pointStore};
 ghost use Rattle.store_add.specs.Deciding.{decisionMeans};
-ghost use Rattle.store_add.specs.Answering.{SequenceOpen, countedStore, fullAdd, keptAdd};
+ghost use Rattle.store_add.specs.Answering.{changed};
 use crate::AddDecision;
+use crate::changes::AddChanges;
+use crate::changes::full;
+use crate::changes::kept;
+use crate::changes::unchanged;
+use crate::changes::waited;
 use crate::lay::lay_row;
 use crate::lay::shift_window;
-use crate::room::Extent;
 use crate::room::find_room;
-use crate::take::TakenIndex;
 use crate::take::label_for;
 use crate::take::take_index;
-use labels::TakenLabel;
 use placement::Laid;
-use placement_rows::LaidRow;
 use store_check::Figures;
-use store_definitions::AddResult;
-use store_definitions::Added;
-use store_definitions::Kept;
 use store_definitions::Store;
 use terms::FloatBits;
-use terms::PointIndex;
-use terms::Refusal;
-
-fn counted(s: Store) -> Store
-    requires { ⌜ SequenceOpen s ⌝ }
-    ensures { λ r. ⌜ r ≡ countedStore s ⌝ }
-{
-    let sequence = s.next_sequence_index + 1;
-    let mut after = s;
-    after.next_sequence_index = sequence;
-    after
-}
 
 fn place_of(laid: Laid) -> usize
     ensures { λ r. ⌜ r ≡ placeOf laid ⌝ }
@@ -45,46 +31,6 @@ fn place_of(laid: Laid) -> usize
     match laid {
         Laid::Whole(place) => place,
         Laid::Joined(place) => place,
-    }
-}
-
-// The row does not fit: what compaction and growth did stands.
-fn full(s: Store, extent: Extent) -> AddResult
-    ensures { λ r. ⌜ r ≡ fullAdd s extent ⌝ }
-{
-    let mut after = s;
-    after.start_free_region = extent.start_free_region;
-    after.store_length = extent.store_length;
-    AddResult {
-        store: after,
-        answer: Added::Refused(Refusal::FloatSpaceFull),
-    }
-}
-
-fn kept(s: Store, extent: Extent, laid: LaidRow, taken: TakenLabel, index: TakenIndex) -> AddResult
-    requires { ⌜ SequenceOpen s ⌝ }
-    ensures { λ r. ⌜ r ≡ keptAdd s extent laid taken index ⌝ }
-{
-    let how = laid.laid;
-    let label = taken.label;
-    let managers = taken.managers;
-    let index_manager = index.manager;
-    let label_manager = managers.label_manager;
-    let attribute_manager = managers.attribute_manager;
-    let mut after = counted(s);
-    after.start_free_region = laid.start_free_region;
-    after.store_length = extent.store_length;
-    after.index_manager = index_manager;
-    after.label_manager = label_manager;
-    after.attribute_manager = attribute_manager;
-    AddResult {
-        store: after,
-        answer: Added::Kept(Kept {
-            index: PointIndex(index.index),
-            label,
-            laid: how,
-            free_indices: index.free,
-        }),
     }
 }
 
@@ -109,22 +55,15 @@ pub fn act(
     point: &[FloatBits],
     label: usize,
     figures: Figures,
-) -> AddResult
+) -> AddChanges
     requires { ⌜ (decisionMeans d ≡ addDecided (pointStore s (held store «last_known_shingle» «reference_count» location «index_starts» «index_ends» labels «label_attributes» «label_count» «label_starts» «label_ends» attributes «attribute_count» «attribute_starts» «attribute_ends»)) (now point) label) × FiguresOf figures (pointStore s (held store «last_known_shingle» «reference_count» location «index_starts» «index_ends» labels «label_attributes» «label_count» «label_starts» «label_ends» attributes «attribute_count» «attribute_starts» «attribute_ends»)) ⌝ }
-    ensures { λ r. ⌜ outcome (addedMeans (r .answer)) (pointStore (r .store) (left store «last_known_shingle» «reference_count» location «index_starts» «index_ends» labels «label_attributes» «label_count» «label_starts» «label_ends» attributes «attribute_count» «attribute_starts» «attribute_ends»)) ≡ addCarriedOut wordsEqual 0 (decisionMeans d) (pointStore s (entered store «last_known_shingle» «reference_count» location «index_starts» «index_ends» labels «label_attributes» «label_count» «label_starts» «label_ends» attributes «attribute_count» «attribute_starts» «attribute_ends»)) (now (point .entry)) label ⌝ }
+    ensures { λ r. ⌜ outcome (addedMeans (r .answer)) (pointStore (changed s r) (left store «last_known_shingle» «reference_count» location «index_starts» «index_ends» labels «label_attributes» «label_count» «label_starts» «label_ends» attributes «attribute_count» «attribute_starts» «attribute_ends»)) ≡ addCarriedOut wordsEqual 0 (decisionMeans d) (pointStore s (entered store «last_known_shingle» «reference_count» location «index_starts» «index_ends» labels «label_attributes» «label_count» «label_starts» «label_ends» attributes «attribute_count» «attribute_starts» «attribute_ends»)) (now (point .entry)) label ⌝ }
 {
     match d {
-        AddDecision::Refuse(why) => AddResult {
-            store: s,
-            answer: Added::Refused(why),
-        },
+        AddDecision::Refuse(why) => unchanged(s, why),
         AddDecision::Wait => {
             shift_window(s, last_known_shingle, point);
-            let after = counted(s);
-            AddResult {
-                store: after,
-                answer: Added::Waiting,
-            }
+            waited(s)
         }
         AddDecision::Keep => {
             let room = find_room(s, store, location, last_known_shingle, point);

@@ -8,14 +8,18 @@ ghost use Rattle.store_definitions.specs.Answers.{addedMeans, outcome};
 ghost use Rattle.store_definitions.specs.Lent.{held, entered, left};
 ghost use Rattle.store_definitions.specs.Memory.{pointStore};
 ghost use Rattle.store_definitions.specs.WellFormed.{wellFormed};
+ghost use Rattle.store_add.specs.Answering.{changed};
 
 mod act;
+mod changes;
 mod decide;
 mod lay;
 mod room;
 mod take;
 
 use act::act;
+pub use changes::AddChanges;
+pub use changes::with_changes;
 use decide::add_decision;
 use store_check::Figures;
 use store_check::check;
@@ -75,7 +79,7 @@ pub fn add(
     let ok = checked.ok;
     if ok {
         let figures = checked.figures;
-        return add_unchecked(
+        let changes = add_unchecked(
             s,
             store,
             last_known_shingle,
@@ -96,6 +100,12 @@ pub fn add(
             label,
             figures,
         );
+        let answer = changes.answer;
+        let after = with_changes(s, changes);
+        return AddResult {
+            store: after,
+            answer,
+        };
     }
     AddResult {
         store: s,
@@ -124,9 +134,9 @@ pub fn add_unchecked(
     point: &[FloatBits],
     label: usize,
     figures: Figures,
-) -> AddResult
+) -> AddChanges
     requires { ⌜ (wellFormed (pointStore s (held store «last_known_shingle» «reference_count» location «index_starts» «index_ends» labels «label_attributes» «label_count» «label_starts» «label_ends» attributes «attribute_count» «attribute_starts» «attribute_ends»)) ≡ true) × FiguresOf figures (pointStore s (held store «last_known_shingle» «reference_count» location «index_starts» «index_ends» labels «label_attributes» «label_count» «label_starts» «label_ends» attributes «attribute_count» «attribute_starts» «attribute_ends»)) ⌝ }
-    ensures { λ r. ⌜ outcome (addedMeans (r .answer)) (pointStore (r .store) (left store «last_known_shingle» «reference_count» location «index_starts» «index_ends» labels «label_attributes» «label_count» «label_starts» «label_ends» attributes «attribute_count» «attribute_starts» «attribute_ends»)) ≡ addSpec wordsEqual 0 (pointStore s (entered store «last_known_shingle» «reference_count» location «index_starts» «index_ends» labels «label_attributes» «label_count» «label_starts» «label_ends» attributes «attribute_count» «attribute_starts» «attribute_ends»)) (now (point .entry)) label ⌝ }
+    ensures { λ r. ⌜ outcome (addedMeans (r .answer)) (pointStore (changed s r) (left store «last_known_shingle» «reference_count» location «index_starts» «index_ends» labels «label_attributes» «label_count» «label_starts» «label_ends» attributes «attribute_count» «attribute_starts» «attribute_ends»)) ≡ addSpec wordsEqual 0 (pointStore s (entered store «last_known_shingle» «reference_count» location «index_starts» «index_ends» labels «label_attributes» «label_count» «label_starts» «label_ends» attributes «attribute_count» «attribute_starts» «attribute_ends»)) (now (point .entry)) label ⌝ }
 {
     let d = add_decision(s, point.len(), label);
     act(

@@ -47,16 +47,16 @@ fn asked(lent: &mut Lent, point: &[u32], owed: (u64, u64)) {
     }
 }
 
-/// Nanoseconds by which an is_equal of the row itself is longer than one of another point.
-fn longer_than(other: &[u32], owed: (u64, u64)) -> f64 {
+/// Nanoseconds by which an is_equal of the row itself is longer than one of a point of a wrong length, which is not compared.
+fn of_rows() -> f64 {
     let lent = stored();
-    let (whole, short) = both(
+    let (whole, refused) = both(
         TURNS,
         || (lent.clone(), lent.clone()),
         |lent| asked(lent, &row(), (0, 1)),
-        |lent| asked(lent, other, owed),
+        |lent| asked(lent, &row()[1..], (3, 2)),
     );
-    whole - short
+    whole - refused
 }
 
 fn in_c(a: &[u32], b: &[u32]) {
@@ -67,30 +67,14 @@ fn in_c(a: &[u32], b: &[u32]) {
     }
 }
 
-/// The same of `memcmp`: nanoseconds of equal rows, and of one that differs at the first float.
-fn of_memcmp(other: &[u32]) -> (f64, f64) {
-    both(
-        TURNS,
-        || ((row(), row()), (row(), other.to_vec())),
-        |(a, b)| in_c(a, b),
-        |(a, b)| in_c(a, b),
-    )
+fn of_memcmp() -> f64 {
+    both(TURNS, || ((row(), row()), ()), |(a, b)| in_c(a, b), |()| ()).0
 }
 
-pub fn compared() -> [Compared; 2] {
-    let mut other = row();
-    other[0] ^= 1;
-    let (whole, first) = of_memcmp(&other);
-    [
-        Compared {
-            what: "64 floats: is_equal less one refused for its length, to memcmp",
-            here: longer_than(&row()[1..], (3, 2)),
-            there: whole,
-        },
-        Compared {
-            what: "the last 48 of them: less one whose first float differs, to memcmp less the same",
-            here: longer_than(&other, (0, 0)),
-            there: whole - first,
-        },
-    ]
+pub fn compared() -> Compared {
+    Compared {
+        what: "64 floats: is_equal less one refused for its length, to memcmp",
+        here: of_rows(),
+        there: of_memcmp(),
+    }
 }

@@ -3,6 +3,7 @@ use Prim.Native.Nat.{ℕ}
 use mathlib.Core.Path.{sym, _∙_}
 use Rattle.store_definitions.specs.Memory.{Memory, pointStore}
 use Rattle.store_definitions.specs.Answers.{addedMeans, outcome}
+use Rattle.store_add.specs.Answering.{changed}
 use Rattle.store_add.specs.Deciding.{decision-asks, asked-well}
 use Rattle.store_add.proofs.ActLaws.{added}
 use Rattle.store_add.proofs.add_unchecked.Statement.{statement}
@@ -66,7 +67,7 @@ returns c = let a = c .before .before .before .before .before .before .before .b
     let ac = c .before .before .before .before .before .before .before .before .before .before .before .before .before .before .before .before .before .before .before .before .before .before .before .before .before .before .act in
     let de = c .before .before .before .before .before .before .before .before .before .before .before .before .before .before .before .before .before .before .before .before .before .before .before .before .before .before .before .before .before .before .before .before .before .before .before .before .before .before .before .before .add-decision in
     let m′ : Memory ℕ = record { store = ac .last .1 .1 .0; lastKnownShingle = ac .last .1 .1 .1 .0; referenceCount = ac .last .1 .1 .1 .1 .0; location = ac .last .1 .1 .1 .1 .1 .0; indexStarts = ac .last .1 .1 .1 .1 .1 .1 .0; indexEnds = ac .last .1 .1 .1 .1 .1 .1 .1 .0; labels = ac .last .1 .1 .1 .1 .1 .1 .1 .1 .0; labelAttributes = ac .last .1 .1 .1 .1 .1 .1 .1 .1 .1 .0; labelCount = ac .last .1 .1 .1 .1 .1 .1 .1 .1 .1 .1 .0; labelStarts = ac .last .1 .1 .1 .1 .1 .1 .1 .1 .1 .1 .1 .0; labelEnds = a .label-ends .now; attributes = ac .last .1 .1 .1 .1 .1 .1 .1 .1 .1 .1 .1 .1 .1 .0; attributeCount = ac .last .1 .1 .1 .1 .1 .1 .1 .1 .1 .1 .1 .1 .1 .1 .0; attributeStarts = ac .last .1 .1 .1 .1 .1 .1 .1 .1 .1 .1 .1 .1 .1 .1 .1 .0; attributeEnds = a .attribute-ends .now } in
-    added (de .result) p (a .point .now) (a .label) (outcome (addedMeans (ac .result .answer)) (pointStore (ac .result .store) m′)) (de .ensures ∙ sym (asked-well p (a .point .now) (a .label) (c .before .before .before .before .before .before .before .before .before .before .before .before .before .before .before .before .before .before .before .before .before .before .before .before .before .before .before .before .before .before .before .before .before .before .before .before .before .before .before .before .before .before .before .before .before .before .before .before .before .before .before .before .before .before .before .before .before .pre .0))) (ac .ensures)
+    added (de .result) p (a .point .now) (a .label) (outcome (addedMeans (ac .result .answer)) (pointStore (changed (a .s) (ac .result)) m′)) (de .ensures ∙ sym (asked-well p (a .point .now) (a .label) (c .before .before .before .before .before .before .before .before .before .before .before .before .before .before .before .before .before .before .before .before .before .before .before .before .before .before .before .before .before .before .before .before .before .before .before .before .before .before .before .before .before .before .before .before .before .before .before .before .before .before .before .before .before .before .before .before .before .pre .0))) (ac .ensures)
 
 pub add-unchecked-spec : {M : Type 1} → statement M
 add-unchecked-spec = tie.close (tie.spec add-decision-requires act-requires same-length same-length-2 same-length-3 same-length-4 same-length-5 same-length-6 same-length-7 same-length-8 same-length-9 same-length-10 same-length-11 same-length-12 same-length-13 returns)

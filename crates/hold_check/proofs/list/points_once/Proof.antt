@@ -8,14 +8,11 @@ use Rattle.hold_check.specs.ListedOnce.{listedOnce}
 use Rattle.hold_check.proofs.list.points_once.Statement.{statement}
 use Rattle.hold_check.proofs.list.points_once.Tie as tie
 
-counts-single-requires : tie.Need-counts-single-requires
-counts-single-requires c κs = search needs
-
 returns : tie.Need-returns
 returns c =
-    let a = c .before .before .before .before .args in
-    let r = c .before .before .before .before .pre .0 (c .before .if1 .taken) in
-    rw (eq-eqb (a .held) (a .live) (r .0)) (c .counts-single .ensures ∙ r .1 ∙ sym (and-true (listedOnce (a .n) (a .counts .now) (take (a .held) (a .list .now)))))
+    let a = c .before .before .before .args in
+    let r = c .before .before .before .pre .0 (c .if1 .taken) in
+    rw (eq-eqb (a .held) (a .live) (r .0), r .1)
 
 listed-once-requires : tie.Need-listed-once-requires
 listed-once-requires c κs = search needs
@@ -31,5 +28,4 @@ returns-3 c =
     rw (ne-eqb (a .held) (a .live) (c .if2 .left)) (sym (and-false (listedOnce (a .n) (a .counts .now) (take (a .held) (a .list .now)))))
 
 pub points-once-spec : {M : Type 1} → statement M
-points-once-spec =
-    tie.close (tie.spec counts-single-requires returns listed-once-requires returns-2 returns-3)
+points-once-spec = tie.close (tie.spec returns listed-once-requires returns-2 returns-3)

@@ -7,11 +7,12 @@ use Rattle.float_bits.specs.Words.{wordsEqual}
 use Rattle.placement.specs.Laying.{placeOf}
 use Rattle.labels.specs.Counted.{counted}
 use Rattle.labels.specs.Forms.{labelHalf, labelOutcome}
-use Rattle.store_definitions.specs.declared.AddResult.{AddResult}
 use Rattle.store_definitions.specs.Memory.{Memory, pointStore}
 use Rattle.store_definitions.specs.Parts.{baseOf}
 use Rattle.store_definitions.specs.Answers.{addedMeans, outcome}
 use Rattle.store_definitions.specs.Adding.{overflows}
+use Rattle.store_add.specs.declared.changes.AddChanges.{AddChanges}
+use Rattle.store_add.specs.Answering.{changed}
 use Rattle.store_add.specs.Deciding.{decisionMeans}
 use Rattle.store_add.specs.Pieces.{rowsAt, rowFrom, indexGiven}
 use Rattle.store_add.proofs.RoomLaws.{room-rows}
@@ -23,6 +24,9 @@ use Rattle.store_add.proofs.act.act.Tie as tie
 enum-known-d : tie.Need-enum-known-d
 enum-known-d c = search needs
 
+unchanged-requires : tie.Need-unchanged-requires
+unchanged-requires c κs = search needs
+
 enum-told : tie.Need-enum-told
 enum-told c = search needs
 
@@ -32,8 +36,8 @@ shift-window-requires c κs = let a = c .before .before .before .before .before 
     let p = pointStore (a .s) m in
     waits-ready p (a .point .now) (a .label) (sym (c .before .before .before .before .before .before .before .before .before .before .before .before .before .before .before .before .before .before .before .pre .0) ∙ ap decisionMeans (c .before .enum-told .given .1)) .row
 
-counted-requires : tie.Need-counted-requires
-counted-requires c κs = let a = c .before .before .before .before .before .before .before .before .before .before .before .before .before .before .before .before .before .before .before .before .before .before .args in
+waited-requires : tie.Need-waited-requires
+waited-requires c κs = let a = c .before .before .before .before .before .before .before .before .before .before .before .before .before .before .before .before .before .before .before .before .before .before .args in
     let m : Memory ℕ = record { store = a .store .now; lastKnownShingle = a .last-known-shingle .now; referenceCount = a .reference-count .now; location = a .location .now; indexStarts = a .index-starts .now; indexEnds = a .index-ends .now; labels = a .labels .now; labelAttributes = a .label-attributes .now; labelCount = a .label-count .now; labelStarts = a .label-starts .now; labelEnds = a .label-ends .now; attributes = a .attributes .now; attributeCount = a .attribute-count .now; attributeStarts = a .attribute-starts .now; attributeEnds = a .attribute-ends .now } in
     let p = pointStore (a .s) m in
     waits-ready p (a .point .now) (a .label) (sym (c .before .before .before .before .before .before .before .before .before .before .before .before .before .before .before .before .before .before .before .before .before .before .pre .0) ∙ ap decisionMeans (c .before .before .before .before .enum-told .given .1)) .opened
@@ -143,18 +147,19 @@ returns c = let a = c .before .before .before .before .before .before .before .b
     let m′ : Memory ℕ = record { store = lr .last .1 .0; lastKnownShingle = lr .last .1 .1 .0; referenceCount = ti .last .1 .0; location = ti .last .1 .1 .0; indexStarts = ti .last .1 .1 .1 .0; indexEnds = ti .last .1 .1 .1 .1 .0; labels = tl .last .1 .0; labelAttributes = tl .last .1 .1 .0; labelCount = tl .last .1 .1 .1 .0; labelStarts = tl .last .1 .1 .1 .1 .0; labelEnds = a .label-ends .now; attributes = tl .last .1 .1 .1 .1 .1 .1 .0; attributeCount = tl .last .1 .1 .1 .1 .1 .1 .1 .0; attributeStarts = tl .last .1 .1 .1 .1 .1 .1 .1 .1 .0; attributeEnds = a .attribute-ends .now } in
     let l = labelOutcome (tl .result .label) (labelHalf (tl .result .managers) (tl .last .1 .0) (tl .last .1 .1 .0) (tl .last .1 .1 .1 .0) (tl .last .1 .1 .1 .1 .0) (a .label-ends .now) (tl .last .1 .1 .1 .1 .1 .1 .0) (tl .last .1 .1 .1 .1 .1 .1 .1 .0) (tl .last .1 .1 .1 .1 .1 .1 .1 .1 .0) (a .attribute-ends .now)) in
     let i = indexGiven (ti .result .index) (ti .result .free) (counted (ti .result .manager) (ti .last .1 .0) (ti .last .1 .1 .1 .0) (ti .last .1 .1 .1 .1 .0)) (ti .last .1 .1 .0) in
-    acted-keep (a .d) p (a .point .now) (a .label) (c .before .before .before .before .before .before .before .before .before .before .before .before .before .before .before .before .before .before .before .before .before .before .before .before .before .before .before .before .before .before .before .before .before .before .before .before .before .before .before .before .before .before .before .before .before .before .before .before .before .before .before .before .before .before .before .before .enum-told2 .given .1) (outcome (addedMeans (kp .result .answer)) (pointStore (kp .result .store) m′))
-    (ap (λ (x : AddResult). outcome (addedMeans (x .answer)) (pointStore (x .store) m′)) (kp .ensures)
+    acted-keep (a .d) p (a .point .now) (a .label) (c .before .before .before .before .before .before .before .before .before .before .before .before .before .before .before .before .before .before .before .before .before .before .before .before .before .before .before .before .before .before .before .before .before .before .before .before .before .before .before .before .before .before .before .before .before .before .before .before .before .before .before .before .before .before .before .before .enum-told2 .given .1) (outcome (addedMeans (kp .result .answer)) (pointStore (changed (a .s) (kp .result)) m′))
+    (ap (λ (x : AddChanges). outcome (addedMeans (x .answer)) (pointStore (changed (a .s) x) m′)) (kp .ensures)
     ∙ put p (a .point .now) (a .label) r (fr .ensures .0) (fr .result .joined) l (po .result) i (lr .last .1 .1 .0) (lr .last .1 .0) (lr .result .laid) (lr .result .«start_free_region») (fr .ensures .1 .0) fits (tl .ensures) (po .ensures) (ti .ensures) (lr .ensures .0) (lr .ensures .1 .0) (lr .ensures .1 .1 .0) (lr .ensures .1 .1 .1))
 
 full-requires : tie.Need-full-requires
 full-requires c κs = search needs
 
 returns-2 : tie.Need-returns-2
-returns-2 c = let a = c .before .before .before .before .before .before .before .before .before .before .before .before .before .before .before .before .before .before .before .args in
+returns-2 c = let a = c .before .before .before .before .before .before .before .before .before .before .before .before .before .before .before .before .before .before .before .before .args in
     let m : Memory ℕ = record { store = a .store .now; lastKnownShingle = a .last-known-shingle .now; referenceCount = a .reference-count .now; location = a .location .now; indexStarts = a .index-starts .now; indexEnds = a .index-ends .now; labels = a .labels .now; labelAttributes = a .label-attributes .now; labelCount = a .label-count .now; labelStarts = a .label-starts .now; labelEnds = a .label-ends .now; attributes = a .attributes .now; attributeCount = a .attribute-count .now; attributeStarts = a .attribute-starts .now; attributeEnds = a .attribute-ends .now } in
     let p = pointStore (a .s) m in
-    acted-refuse (a .d) p (a .point .now) (a .label) (c .before .d .given .0 .0) (c .before .d .given .1)
+    let un = c .unchanged in
+    acted-refuse (a .d) p (a .point .now) (a .label) (c .before .before .d .given .0 .0) (c .before .before .d .given .1) (un .result) (un .ensures)
 
 same-length-14 : tie.Need-same-length-14
 same-length-14 c = c .before .before .before .shift-window .kept .1 .0
@@ -164,8 +169,8 @@ returns-3 c = let a = c .before .before .before .before .before .before .before 
     let m : Memory ℕ = record { store = a .store .now; lastKnownShingle = a .last-known-shingle .now; referenceCount = a .reference-count .now; location = a .location .now; indexStarts = a .index-starts .now; indexEnds = a .index-ends .now; labels = a .labels .now; labelAttributes = a .label-attributes .now; labelCount = a .label-count .now; labelStarts = a .label-starts .now; labelEnds = a .label-ends .now; attributes = a .attributes .now; attributeCount = a .attribute-count .now; attributeStarts = a .attribute-starts .now; attributeEnds = a .attribute-ends .now } in
     let p = pointStore (a .s) m in
     let sw = c .before .before .before .shift-window in
-    let co = c .counted in
-    acted-wait (a .d) p (a .point .now) (a .label) (c .before .before .before .before .before .enum-told .given .1) (co .result) (sw .last .1 .0) (co .ensures) (sw .ensures)
+    let wa = c .waited in
+    acted-wait (a .d) p (a .point .now) (a .label) (c .before .before .before .before .before .enum-told .given .1) (wa .result) (sw .last .1 .0) (wa .ensures) (sw .ensures)
 
 same-length-15 : tie.Need-same-length-15
 same-length-15 c = c .before .before .before .before .before .before .before .find-room .kept .1 .0
@@ -186,9 +191,9 @@ returns-4 c = let a = c .before .before .before .before .before .before .before 
     let m′ : Memory ℕ = record { store = fr .last .1 .0; lastKnownShingle = a .last-known-shingle .now; referenceCount = a .reference-count .now; location = fr .last .1 .1 .0; indexStarts = a .index-starts .now; indexEnds = a .index-ends .now; labels = a .labels .now; labelAttributes = a .label-attributes .now; labelCount = a .label-count .now; labelStarts = a .label-starts .now; labelEnds = a .label-ends .now; attributes = a .attributes .now; attributeCount = a .attribute-count .now; attributeStarts = a .attribute-starts .now; attributeEnds = a .attribute-ends .now } in
     let fu = c .full in
     let over = not-false (overflows wordsEqual (a .s) r row) (sym (fr .ensures .1 .1) ∙ c .before .if1 .left) in
-    acted-keep (a .d) p (a .point .now) (a .label) (c .before .before .before .before .before .before .before .before .before .before .before .enum-told2 .given .1) (outcome (addedMeans (fu .result .answer)) (pointStore (fu .result .store) m′))
-    (ap (λ (x : AddResult). outcome (addedMeans (x .answer)) (pointStore (x .store) m′)) (fu .ensures)
+    acted-keep (a .d) p (a .point .now) (a .label) (c .before .before .before .before .before .before .before .before .before .before .before .enum-told2 .given .1) (outcome (addedMeans (fu .result .answer)) (pointStore (changed (a .s) (fu .result)) m′))
+    (ap (λ (x : AddChanges). outcome (addedMeans (x .answer)) (pointStore (changed (a .s) x) m′)) (fu .ensures)
     ∙ keeps-full p (a .point .now) (a .label) r (fr .ensures .0) over)
 
 pub act-spec : {M : Type 1} → statement M
-act-spec = tie.close (tie.spec enum-known-d enum-told shift-window-requires counted-requires enum-told-2 find-room-requires label-for-requires lay-row-requires place-of-requires take-index-requires kept-requires same-length same-length-2 same-length-3 same-length-4 same-length-5 same-length-6 same-length-7 same-length-8 same-length-9 same-length-10 same-length-11 same-length-12 same-length-13 returns full-requires returns-2 same-length-14 returns-3 same-length-15 same-length-16 same-length-17 returns-4)
+act-spec = tie.close (tie.spec enum-known-d unchanged-requires enum-told shift-window-requires waited-requires enum-told-2 find-room-requires label-for-requires lay-row-requires place-of-requires take-index-requires kept-requires same-length same-length-2 same-length-3 same-length-4 same-length-5 same-length-6 same-length-7 same-length-8 same-length-9 same-length-10 same-length-11 same-length-12 same-length-13 returns full-requires returns-2 same-length-14 returns-3 same-length-15 same-length-16 same-length-17 returns-4)
