@@ -1,5 +1,7 @@
 // A store with its memory by value, for programs: at most sixteen points and 512 floats. Each function lends the memory to one
 // call of the store, since lending it to several in one function is dear to check.
+#![tactic(auto)]
+
 use store_definitions::{Added, Adjusted, Done, Store};
 
 mod change;

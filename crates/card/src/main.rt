@@ -1,4 +1,6 @@
 // Writes the page of worked case D, and nothing else: five adds, then dec 0, dec 1 and compact (docs/STORE.md).
+#![tactic(auto)]
+
 use block::{Block, add_row, compact_block, dec_point, open_block};
 use libc::STDOUT_FILENO;
 use store_definitions::{Number, Shape};

@@ -1,5 +1,7 @@
 // The table of reason classes that a store is opened with: which tables are allowed, the text of a table, and the text of document
 // 01's own table.
+#![tactic(auto)]
+
 mod allowed;
 mod read;
 mod reasons;

@@ -1,4 +1,6 @@
 // A table of classes in a record of words: one word a class, from a word on.
+#![tactic(auto)]
+
 ghost use Rattle.std.specs.Prelude.{true, ◌≡◌, ◌+◌, ◌≤◌, length, take, drop};
 ghost use Rattle.std.proofs.lemmas.List.Edits.{sets};
 ghost use Rattle.class_words.specs.Words.{classes_legal};

@@ -1,5 +1,7 @@
 // Decimal numbers right-justified in fields of any width, and lines of such fields: writers into a part of a lent text, readers
 // from one. The rule of a field stands in specs/Field.antt, its laws for every width in specs/FieldLaws.antt.
+#![tactic(auto)]
+
 mod columns;
 mod read;
 mod write;

@@ -2,6 +2,8 @@
 //
 // The logic has one NaN and no payload, so what must come back bit for bit is held and moved as words; a float is made
 // of a word where there is something to compute.
+#![tactic(auto)]
+
 ghost use Rattle.std.specs.Prelude.{◌≡◌, ◌<◌, ◌≤◌, ◌^◌, length};
 ghost use Rattle.float_bits.specs.Words.{float_of, word_of, nan_word};
 ghost use Rattle.float_bits.specs.Rows.{rows_equal, add_scaled};

@@ -4,3 +4,4 @@
 // store's functions equate with what the program does: result, record and every lent slice, refused or not. The crate program_runs
 // shows that a program which opens a store and hands each call the record and memory as the last one left them runs through the
 // very stores of which Theorem.antt speaks.
+#![tactic(auto)]

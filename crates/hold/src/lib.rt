@@ -1,5 +1,7 @@
 // A sliding hold over a store of its own: opening one, and an add that keeps the newest points and nothing older. Its readings
 // stand in `hold_check`.
+#![tactic(auto)]
+
 ghost use Rattle.std.specs.Prelude.{true, ◌≡◌};
 ghost use Rattle.float_bits.specs.Words.{words_equal};
 ghost use Rattle.hold_definitions.specs.Adding.{hold_added, hold_add_spec};

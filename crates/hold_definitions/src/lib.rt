@@ -1,5 +1,7 @@
 // A sliding hold over a store of its own: the newest kept points, as many as the hold is wide, and nothing older. The types of its
 // interface are here, what every call does is in specs/; the code stands in the crate above.
+#![tactic(auto)]
+
 use store_definitions::{Added, Done, Store};
 
 // The record of a hold. Its store's memory is lent beside it, with two tables more: the held point indices and their label

@@ -1,4 +1,6 @@
 // Opening a hold in lent memory: its store, its width, and an empty list.
+#![tactic(auto)]
+
 ghost use Rattle.std.specs.Prelude.{◌≡◌};
 ghost use Rattle.hold_definitions.specs.Answers.{hold_outcome};
 ghost use Rattle.hold_definitions.specs.Lent.{hold_entered, hold_left};

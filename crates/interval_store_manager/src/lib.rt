@@ -1,6 +1,8 @@
 // The interval manager of document 01: a stack of intervals of free indices, over two slices that the caller lends. A port
 // of intervalstoremanager.rs. Every public call takes any manager and any slices, and refuses what is not well-formed; the
 // functions that end in `unchecked` are for callers that have checked, and follow the same definitions.
+#![tactic(auto)]
+
 ghost use Rattle.std.specs.Prelude.{◌≡◌};
 ghost use Rattle.interval_store_manager.specs.Answers.{opened_means, changed_means, got_means, number_means, emptiness_means, opening, outcome};
 ghost use Rattle.interval_store_manager.specs.Calls.{new_spec, change_spec, get_spec, release_spec, used_spec, is_empty_spec, get_capacity_spec};

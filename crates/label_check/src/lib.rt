@@ -1,5 +1,7 @@
 // Well-formedness of the label half in one linear pass. The managers mark their free indices; each label adds its count to
 // the sum of its slot; each slot's count is held against its sum, and the class of each live slot is seen once.
+#![tactic(auto)]
+
 ghost use Rattle.std.specs.Prelude.{true, ◌≡◌};
 ghost use Rattle.labels.specs.Labels.{tables_lent, labels_well, labels_ok};
 ghost use Rattle.labels.specs.Forms.{entered, FreeOf};

@@ -1,4 +1,6 @@
 // Opening the label half: the first entries of each table made 0, and the managers as new makes them.
+#![tactic(auto)]
+
 ghost use Rattle.std.specs.Prelude.{◌≡◌, ◌≤◌, length};
 ghost use Rattle.interval_store_manager.specs.Answers.{opened, opening};
 ghost use Rattle.interval_store_manager.specs.Calls.{new_spec};

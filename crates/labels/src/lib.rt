@@ -1,6 +1,8 @@
 // The label half of document 01's store: reason classes, label indices and attribute slots, over lent slices, two interval
 // managers and the capacity. The store's calls sequence it with the points. Decisions and readings take any slices; taking,
 // inc and dec are for callers that have checked.
+#![tactic(auto)]
+
 mod classes;
 mod count;
 mod decide;

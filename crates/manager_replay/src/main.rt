@@ -2,6 +2,8 @@
 // after each call. A line of the record is a step: call, argument, value, answer, entries in use, start and end of the top.
 // The value is 0 or document 01's refusal number; what there is none of is 0. How the record is made stands in
 // differential/README.md.
+#![tactic(auto)]
+
 mod made;
 mod tally;
 mod text;

@@ -2,6 +2,8 @@
 // out, how the store and the point table grow, and compaction in one pass. Each function does what its definition in
 // `placement` says, at words and their equality. The slices may be longer than what the store has in use: what lies
 // past that is left as it is.
+#![tactic(auto)]
+
 mod compaction;
 mod copying;
 mod growth;

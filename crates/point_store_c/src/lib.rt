@@ -3,6 +3,8 @@
 // return value is 0 or the refusal's number, and an answer goes to lent numbers or an output slice. A refused call writes no
 // more than document 01 says: what an add refused with 10 made of the floats, the pairs before an adjust's refused one, and
 // their number.
+#![tactic(auto)]
+
 mod answers;
 mod counts;
 mod hold_calls;

@@ -1,5 +1,7 @@
 // A set of eight readings: as kinds and words, filled and tallied, and as floats turned into those. The functions that take slices
 // are for callers that have looked at their lengths.
+#![tactic(auto)]
+
 mod convert;
 mod decide;
 mod fill;

@@ -1,5 +1,7 @@
 // A set of eight readings taken by a product: one add of the store, and the tallies. Opening stands in `probes_opening`, the reading of
 // the tallies in `probes_check`.
+#![tactic(auto)]
+
 ghost use Rattle.std.specs.Prelude.{true, ◌≡◌, length};
 ghost use Rattle.float_bits.specs.Words.{words_equal};
 ghost use Rattle.probes_definitions.specs.Answers.{probes_outcome};

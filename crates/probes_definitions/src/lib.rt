@@ -1,5 +1,7 @@
 // The product for the eight-probe block, above a store of its own: one entry a probe, a set of eight readings one add. The types of
 // its interface are here, what every call does is in specs/; the code stands in the crates above.
+#![tactic(auto)]
+
 use store_definitions::{Added, Done, Store};
 
 // What one probe reports.

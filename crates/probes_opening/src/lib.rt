@@ -1,4 +1,6 @@
 // Opening a product in lent memory: its store, and no estimates yet.
+#![tactic(auto)]
+
 ghost use Rattle.std.specs.Prelude.{◌&&◌, ◌≡◌, leb};
 ghost use Rattle.probes_definitions.specs.Answers.{probes_outcome};
 ghost use Rattle.probes_definitions.specs.Memory.{point_probes};

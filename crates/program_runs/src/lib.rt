@@ -3,3 +3,4 @@
 // Ran.antt has a constructor for each changing call of the store, and for the opening, whose premise is the equation of that call's
 // contract, word for word. RanLaws.antt shows that a program which hands each call the record and the memory as the last one left
 // them leaves the store, and is given the answers, of which the guarantee speaks.
+#![tactic(auto)]

@@ -1,5 +1,7 @@
 // The text of recorded calls: numbers in decimal, each followed by one byte, a call to a line. The programs that replay
 // recorded answers of the Rust read it with these.
+#![tactic(auto)]
+
 ghost use Rattle.std.specs.Prelude.{◌≡◌};
 ghost use Rattle.recorded_text.specs.Numbers.{number_at};
 

@@ -1,5 +1,7 @@
 // Replays recorded calls of the Rust's point store on the proved one, and compares every answer, the free start and the number
 // of live points after each call. How the record is made stands in differential/README.md.
+#![tactic(auto)]
+
 mod answers;
 mod calls;
 mod changing;

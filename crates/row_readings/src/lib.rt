@@ -2,6 +2,8 @@
 // point would make, and where the next values stand in it. Each function takes just the slices that it reads and writes, with
 // what the check shows as its `requires`. They stand apart from the calls over the whole store, so that an edit that must be
 // refused is tried in seconds.
+#![tactic(auto)]
+
 mod equality;
 mod index_list;
 mod preview;

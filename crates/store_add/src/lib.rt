@@ -1,4 +1,6 @@
 // Document 01's add: the check, the decision, and then what was decided, each table written by one function.
+#![tactic(auto)]
+
 ghost use Rattle.std.specs.Prelude.{true, ◌≡◌};
 ghost use Rattle.float_bits.specs.Words.{words_equal};
 ghost use Rattle.store_check.specs.Figures.{FiguresOf};

@@ -1,5 +1,7 @@
 // Adjust: a list of pairs, each an inc and a dec, in order. The pairs before a refused one stand. Here in its first form, over
 // plain numbers.
+#![tactic(auto)]
+
 ghost use Rattle.std.specs.Prelude.{true, ◌≡◌};
 ghost use Rattle.store_definitions.specs.Answers.{outcome, adjusted_means};
 ghost use Rattle.store_definitions.specs.Counting.{adjust_spec};

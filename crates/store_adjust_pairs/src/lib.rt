@@ -1,5 +1,7 @@
 // Adjust over the caller's own records: a lent slice of pair structs, walked by a thin loop over covered functions that take plain
 // numbers. What it does is what `adjust_plain` does on the same numbers.
+#![tactic(auto)]
+
 ghost use Rattle.std.specs.Prelude.{true, [], ◌∷◌, ◌≡◌};
 ghost use Rattle.store_definitions.specs.Answers.{outcome, adjusted_means, done_means};
 ghost use Rattle.store_definitions.specs.Counting.{adjust_from, adjust_spec};

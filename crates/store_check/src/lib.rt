@@ -1,5 +1,7 @@
 // The well-formedness check of a store: one linear pass over its stacks, points, labels and slots with local marks. It is the
 // price of every call. Of the floats it sees how many are lent, and nothing else.
+#![tactic(auto)]
+
 ghost use Rattle.std.specs.Prelude.{true, ◌≡◌};
 ghost use Rattle.store_definitions.specs.Memory.{point_store};
 ghost use Rattle.store_definitions.specs.WellFormed.{well_formed};

@@ -1,6 +1,8 @@
 // The calls that count: one more or one less of a point and of its label, and the readings of a count, of the number of live
 // points and of the free start. Each takes any store and any memory, and checks them first; under inc and dec stand the same
 // for callers that have checked.
+#![tactic(auto)]
+
 mod decide;
 mod lower;
 mod raise;

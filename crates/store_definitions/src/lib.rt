@@ -1,5 +1,7 @@
 // Document 01 as definitions: the types of the store's interface here, what every call does in specs/. The store's code
 // stands in the crates above, and its contracts cite these definitions.
+#![tactic(auto)]
+
 use interval_store_manager::IntervalStoreManager;
 use placement::Laid;
 use terms::{LabelIndex, PointIndex, Refusal};

@@ -3,6 +3,8 @@
 //
 // The list is walked twice: every item is judged before the first row is added, so a refused sum leaves the output as it was. A step
 // says which pass the coming turn belongs to and which item is its own; a refusal sets the item past the end.
+#![tactic(auto)]
+
 ghost use Rattle.std.specs.Prelude.{true, [], ◌∷◌, ◌≡◌, ◌<◌, eqb, length};
 ghost use Rattle.float_bits.specs.Rows.{add_scaled};
 ghost use Rattle.float_bits.specs.Words.{float_of, plus_zero};

@@ -1,5 +1,7 @@
 // The terms that every crate shares: the refusals of documents 01 and 02 with their numbers, the two kinds of index, and a
 // binary32 float held as its 32 bits.
+#![tactic(auto)]
+
 ghost use Rattle.std.specs.Prelude.{◌≡◌};
 ghost use Rattle.terms.specs.Refusals.{number};
 

@@ -1,5 +1,7 @@
 // Runs the worked windows A to H of docs/STORE.md, cases of growth and of the largest count, adjust and the other readings on the proved
 // store, and prints what each call answers. Every case begins with a new store.
+#![tactic(auto)]
+
 mod adjust_cases;
 mod cases;
 mod preview_cases;
