@@ -17,7 +17,7 @@ pub use others::{
 pub use reading::{copy_point, count_point, free_start_of, live_points};
 
 // The fifteen tables in the order of the store's calls.
-#[derive(Drop)]
+#[derive(Clone, Copy)]
 pub struct Block {
     pub store: Store,
     pub floats: [u32; 512],
@@ -38,21 +38,21 @@ pub struct Block {
 }
 
 // A block after a call that has no value.
-#[derive(Drop)]
+#[derive(Clone, Copy)]
 pub struct Ended {
     pub block: Block,
     pub answer: Done,
 }
 
 // A block after an add.
-#[derive(Drop)]
+#[derive(Clone, Copy)]
 pub struct Grown {
     pub block: Block,
     pub answer: Added,
 }
 
 // A block after an adjust.
-#[derive(Drop)]
+#[derive(Clone, Copy)]
 pub struct Counted {
     pub block: Block,
     pub answer: Adjusted,

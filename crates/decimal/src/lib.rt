@@ -10,7 +10,7 @@ pub use read::{field_value, is_field, is_line, read_field};
 pub use write::{put_field, put_line, write_field};
 
 // What a field holds.
-#[derive(Drop)]
+#[derive(Clone, Copy)]
 pub enum FieldRead {
     Number(usize),
     NoField,

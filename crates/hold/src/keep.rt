@@ -15,7 +15,7 @@ use store_definitions::{Added, Store};
 use terms::{FloatBits, LabelIndex, NONE, PointIndex};
 
 // What an add's answer gives to the list: whether it was kept, and then its indices.
-#[derive(Drop)]
+#[derive(Clone, Copy)]
 pub struct Given {
     pub kept: bool,
     pub index: usize,

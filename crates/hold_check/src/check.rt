@@ -39,7 +39,7 @@ fn record_holds(
 }
 
 // What the check finds: whether the hold is well-formed, and then what was counted of its store.
-#[derive(Drop)]
+#[derive(Clone, Copy)]
 pub struct HoldChecked {
     pub ok: bool,
     pub figures: Figures,

@@ -12,7 +12,7 @@ use terms::EMPTY_PLACE;
 
 // Two intervals of free indices, each as its start and how many more it holds, and how many indices they hold. A single one stands
 // there twice.
-#[derive(Drop)]
+#[derive(Clone, Copy)]
 struct Pair {
     ok: bool,
     start: u16,

@@ -21,7 +21,7 @@ use store_definitions::Store;
 
 // What is found: whether the store is well-formed, and then what was counted and whether the list is known to name each live point once,
 // each with count 1.
-#[derive(Drop)]
+#[derive(Clone, Copy)]
 pub struct StoreListed {
     pub ok: bool,
     pub figures: Figures,
@@ -29,7 +29,7 @@ pub struct StoreListed {
 }
 
 // The same of the points alone.
-#[derive(Drop)]
+#[derive(Clone, Copy)]
 struct PointsListed {
     ok: bool,
     live: usize,

@@ -6,7 +6,7 @@ use store_definitions::{Added, Done, Store};
 
 // The record of a hold. Its store's memory is lent beside it, with two tables more: the held point indices and their label
 // indices, oldest first.
-#[derive(Drop)]
+#[derive(Clone, Copy)]
 pub struct Hold {
     pub store: Store,
     // How many points are held at most.
@@ -16,13 +16,13 @@ pub struct Hold {
 }
 
 // The record after a call, with its answer. A refused opening gives a record of zeros.
-#[derive(Drop)]
+#[derive(Clone, Copy)]
 pub struct HoldDoneResult {
     pub hold: Hold,
     pub answer: Done,
 }
 
-#[derive(Drop)]
+#[derive(Clone, Copy)]
 pub struct HoldAddResult {
     pub hold: Hold,
     pub answer: Added,

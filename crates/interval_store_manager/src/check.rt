@@ -8,14 +8,14 @@ ghost use Rattle.interval_store_manager.specs.Marks.{filled, Unmarked, Swept, Ma
 use crate::IntervalStoreManager;
 
 // What the check finds: whether the manager is well-formed, and then how many indices are free.
-#[derive(Drop)]
+#[derive(Clone, Copy)]
 pub struct Checked {
     pub ok: bool,
     pub free: usize,
 }
 
 // Whether the intervals lie in bounds and their sizes do not pass the capacity, and what the sizes add up to.
-#[derive(Drop)]
+#[derive(Clone, Copy)]
 struct Sizes {
     ok: bool,
     total: usize,

@@ -16,70 +16,70 @@ use decide::{change_decision, release_decision};
 use terms::Refusal;
 
 // A stack of `last_in_use` intervals over the indices below `capacity`; the caller lends their starts and their ends.
-#[derive(Drop)]
+#[derive(Clone, Copy)]
 pub struct IntervalStoreManager {
     pub capacity: usize,
     pub last_in_use: usize,
 }
 
 // What is decided of a call before anything is written.
-#[derive(Drop)]
+#[derive(Clone, Copy)]
 pub enum Decision {
     Go,
     Refuse(Refusal),
 }
 
-#[derive(Drop)]
+#[derive(Clone, Copy)]
 pub enum Opened {
     Manager(IntervalStoreManager),
     Refused(Refusal),
 }
 
-#[derive(Drop)]
+#[derive(Clone, Copy)]
 pub enum Changed {
     Done,
     Refused(Refusal),
 }
 
-#[derive(Drop)]
+#[derive(Clone, Copy)]
 pub struct ChangeResult {
     pub manager: IntervalStoreManager,
     pub answer: Changed,
 }
 
 // What get gives: the index, and how many remain free.
-#[derive(Drop)]
+#[derive(Clone, Copy)]
 pub struct Given {
     pub index: usize,
     pub free: usize,
 }
 
-#[derive(Drop)]
+#[derive(Clone, Copy)]
 pub enum Got {
     Given(Given),
     Refused(Refusal),
 }
 
-#[derive(Drop)]
+#[derive(Clone, Copy)]
 pub struct GetResult {
     pub manager: IntervalStoreManager,
     pub answer: Got,
 }
 
 // What an unchecked get gives, with the manager after it.
-#[derive(Drop)]
+#[derive(Clone, Copy)]
 pub struct Taken {
     pub manager: IntervalStoreManager,
     pub given: Given,
 }
 
-#[derive(Drop)]
+#[derive(Clone, Copy)]
 pub enum Number {
     Is(usize),
     Refused(Refusal),
 }
 
-#[derive(Drop)]
+#[derive(Clone, Copy)]
 pub enum Emptiness {
     Empty(bool),
     Refused(Refusal),

@@ -15,7 +15,7 @@ use labels::{LabelManagers, LabelsFree};
 use slot_pass::slots_pass;
 
 // What the check finds: whether the label half is well-formed, and then, with labels on, how many label indices and slots are free.
-#[derive(Drop)]
+#[derive(Clone, Copy)]
 pub struct LabelsChecked {
     pub ok: bool,
     pub free: LabelsFree,

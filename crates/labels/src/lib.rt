@@ -19,35 +19,35 @@ pub use take::take_label;
 use terms::{LabelIndex, Refusal};
 
 // The managers of the label indices and of the attribute slots.
-#[derive(Drop)]
+#[derive(Clone, Copy)]
 pub struct LabelManagers {
     pub label_manager: IntervalStoreManager,
     pub attribute_manager: IntervalStoreManager,
 }
 
 // How many label indices and how many slots are free.
-#[derive(Drop)]
+#[derive(Clone, Copy)]
 pub struct LabelsFree {
     pub labels: usize,
     pub slots: usize,
 }
 
 // What taking a label gives: its index, and the managers after it.
-#[derive(Drop)]
+#[derive(Clone, Copy)]
 pub struct TakenLabel {
     pub label: LabelIndex,
     pub managers: LabelManagers,
 }
 
 // What a reading of a label's code or class finds.
-#[derive(Drop)]
+#[derive(Clone, Copy)]
 pub enum LabelRead {
     Is(usize),
     Refused(Refusal),
 }
 
 // What attribute_vec answers.
-#[derive(Drop)]
+#[derive(Clone, Copy)]
 pub enum VectorRead {
     Written,
     Refused(Refusal),

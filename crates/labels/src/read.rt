@@ -26,7 +26,7 @@ pub fn label(
 }
 
 // The slot of a label, and the class that the slot holds.
-#[derive(Drop)]
+#[derive(Clone, Copy)]
 struct HeldClass {
     slot: usize,
     class: usize,

@@ -11,7 +11,7 @@ use interval_store_manager::IntervalStoreManager;
 use terms::LabelIndex;
 
 // A slot taken, with its manager after it.
-#[derive(Drop)]
+#[derive(Clone, Copy)]
 struct TakenSlot {
     slot: usize,
     manager: IntervalStoreManager,

@@ -21,7 +21,7 @@ pub const GET_CAPACITY: usize = 6;
 // The value of a line whose call is none of these.
 const NO_CALL: usize = 99;
 
-#[derive(Drop)]
+#[derive(Clone, Copy)]
 pub struct Made {
     pub manager: IntervalStoreManager,
     pub value: usize,
@@ -29,7 +29,7 @@ pub struct Made {
 }
 
 // The stack's top after a call: 0 and 0 where the stack is empty.
-#[derive(Drop)]
+#[derive(Clone, Copy)]
 pub struct Top {
     pub start: usize,
     pub end: usize,

@@ -14,7 +14,7 @@ use recorded_text::count_lines;
 use text::{Line, line_at};
 
 // What the replay of one line finds: the manager after it, and where the next line starts.
-#[derive(Drop)]
+#[derive(Clone, Copy)]
 struct Step {
     manager: IntervalStoreManager,
     next: usize,

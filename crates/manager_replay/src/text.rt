@@ -1,7 +1,7 @@
 // A line of the record: seven numbers.
 use recorded_text::number_at;
 
-#[derive(Drop)]
+#[derive(Clone, Copy)]
 pub struct Line {
     pub call: usize,
     pub argument: usize,

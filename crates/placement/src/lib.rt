@@ -3,7 +3,7 @@
 #![tactic(auto)]
 
 // How a row was laid: all of it written, or joined to the one before it. The number is its place.
-#[derive(Drop)]
+#[derive(Clone, Copy)]
 pub enum Laid {
     Whole(usize),
     Joined(usize),

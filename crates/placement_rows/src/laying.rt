@@ -8,7 +8,7 @@ use placement::Laid;
 use terms::FloatBits;
 
 // How and where a row was laid, and the free start after it.
-#[derive(Drop)]
+#[derive(Clone, Copy)]
 pub struct LaidRow {
     pub laid: Laid,
     pub start_free_region: usize,

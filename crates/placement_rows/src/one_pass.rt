@@ -12,7 +12,7 @@ use super::words::{copy_down, fill};
 use terms::FloatBits;
 
 // How points lie in the store.
-#[derive(Drop)]
+#[derive(Clone, Copy)]
 pub struct Shape {
     pub dimensions: usize,
     pub base: usize,
@@ -20,7 +20,7 @@ pub struct Shape {
 }
 
 // The write position, and the end of what was read. Both divided by base are carried along, so that no point asks for a division.
-#[derive(Drop)]
+#[derive(Clone, Copy)]
 pub struct Progress {
     pub free: usize,
     pub read: usize,
@@ -29,7 +29,7 @@ pub struct Progress {
 }
 
 // What is written for a point: zeros, and the words from `from` up to its end. It then stands at `place`.
-#[derive(Drop)]
+#[derive(Clone, Copy)]
 pub struct Run {
     pub zeros: usize,
     pub from: usize,

@@ -32,7 +32,7 @@ fn tallies_within(sequence: u32, tallies: [u32; 8]) -> bool
 }
 
 // What the check finds: whether the product is well-formed, and then what was counted of its store.
-#[derive(Drop)]
+#[derive(Clone, Copy)]
 pub struct ProbesChecked {
     pub ok: bool,
     pub figures: Figures,

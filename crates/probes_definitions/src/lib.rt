@@ -5,7 +5,7 @@
 use store_definitions::{Added, Done, Store};
 
 // What one probe reports.
-#[derive(Drop)]
+#[derive(Clone, Copy)]
 pub enum Reading {
     Measured(f32),
     Estimated(f32),
@@ -14,7 +14,7 @@ pub enum Reading {
 
 // The record of a product. Its store's memory is lent beside it. The last floats are the end of the store's window, and are kept
 // nowhere else.
-#[derive(Drop)]
+#[derive(Clone, Copy)]
 pub struct Probes {
     pub store: Store,
     // How many estimates each probe has had. None is above the store's sequence, so 32 bits do.
@@ -22,13 +22,13 @@ pub struct Probes {
 }
 
 // The record after a call, with its answer. A refused opening gives a record of zeros.
-#[derive(Drop)]
+#[derive(Clone, Copy)]
 pub struct ProbesDoneResult {
     pub probes: Probes,
     pub answer: Done,
 }
 
-#[derive(Drop)]
+#[derive(Clone, Copy)]
 pub struct ProbesSetResult {
     pub probes: Probes,
     pub answer: Added,

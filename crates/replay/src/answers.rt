@@ -5,7 +5,7 @@ use store_definitions::{Added, Adjusted, Done, Equality, Kept, Number};
 use terms::{NONE, refusal_number};
 
 // A value and up to five numbers.
-#[derive(Drop)]
+#[derive(Clone, Copy)]
 pub struct Told {
     pub value: usize,
     pub count: usize,

@@ -4,7 +4,7 @@ use crate::answers::Told;
 use block::Block;
 use store_definitions::Done;
 
-#[derive(Drop)]
+#[derive(Clone, Copy)]
 pub struct Made {
     pub block: Block,
     pub value: usize,

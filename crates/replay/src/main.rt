@@ -20,7 +20,7 @@ use recorded_text::count_lines;
 use store_definitions::{Number, Shape};
 
 // What the replay of one line finds: the store after it, and where the next line starts.
-#[derive(Drop)]
+#[derive(Clone, Copy)]
 struct Step {
     block: Block,
     next: usize,

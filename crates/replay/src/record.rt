@@ -8,7 +8,7 @@ use recorded_text::number_at;
 pub const NONE_WRITTEN: usize = 9_999_999_999;
 
 // No call takes or answers more than 64 numbers.
-#[derive(Drop)]
+#[derive(Clone, Copy)]
 pub struct Line {
     pub call: usize,
     pub first: usize,

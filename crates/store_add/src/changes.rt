@@ -11,7 +11,7 @@ use placement_rows::LaidRow;
 use store_definitions::{Added, Kept, Store};
 use terms::{PointIndex, Refusal};
 
-#[derive(Drop)]
+#[derive(Clone, Copy)]
 pub struct AddChanges {
     pub store_length: usize,
     pub start_free_region: usize,

@@ -26,7 +26,7 @@ use store_definitions::{AddResult, Added, Store};
 use terms::{FloatBits, Refusal};
 
 // What is decided of an add before anything is written.
-#[derive(Drop)]
+#[derive(Clone, Copy)]
 pub enum AddDecision {
     Keep,
     Wait,

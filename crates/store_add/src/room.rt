@@ -12,14 +12,14 @@ use store_definitions::Store;
 use terms::FloatBits;
 
 // Free start and store length as compaction and growth leave them.
-#[derive(Drop)]
+#[derive(Clone, Copy)]
 pub struct Extent {
     pub start_free_region: usize,
     pub store_length: usize,
 }
 
 // Room made, whether the row joins what stands before it, and whether it fits.
-#[derive(Drop)]
+#[derive(Clone, Copy)]
 pub struct Room {
     pub extent: Extent,
     pub joined: bool,

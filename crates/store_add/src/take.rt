@@ -12,7 +12,7 @@ use store_definitions::Store;
 use terms::{LabelIndex, NONE};
 
 // An index taken, with how many remain free and its manager after it.
-#[derive(Drop)]
+#[derive(Clone, Copy)]
 pub struct TakenIndex {
     pub index: usize,
     pub free: usize,

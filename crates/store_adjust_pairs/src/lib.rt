@@ -18,7 +18,7 @@ use store_definitions::{AdjustResult, Adjusted, Done, DoneResult, Pair, Store};
 use terms::Refusal;
 
 // What stands after the check or after a pair, and whether the next pair is to be taken.
-#[derive(Drop)]
+#[derive(Clone, Copy)]
 pub struct PairStep {
     pub result: AdjustResult,
     pub ok: bool,

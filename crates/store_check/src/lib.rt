@@ -23,14 +23,14 @@ use table::points_well;
 pub use table::table_well;
 
 // What the check counts: the live points and, with labels on, the free label indices and slots.
-#[derive(Drop)]
+#[derive(Clone, Copy)]
 pub struct Figures {
     pub live: usize,
     pub free: LabelsFree,
 }
 
 // What the check finds: whether the store is well-formed, and then what was counted.
-#[derive(Drop)]
+#[derive(Clone, Copy)]
 pub struct StoreChecked {
     pub ok: bool,
     pub figures: Figures,

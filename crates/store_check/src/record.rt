@@ -10,7 +10,7 @@ use store_definitions::Store;
 const LAST_SEQUENCE: u32 = 4294967295;
 
 // How many entries the lent slices of the rows and of the points have.
-#[derive(Drop)]
+#[derive(Clone, Copy)]
 pub struct Lengths {
     pub floats: usize,
     pub window: usize,

@@ -10,14 +10,14 @@ use interval_store_manager::mark_free;
 use store_definitions::Store;
 
 // What the pass finds: whether the points' half is well-formed, and then how many points are live.
-#[derive(Drop)]
+#[derive(Clone, Copy)]
 pub struct PointsChecked {
     pub ok: bool,
     pub live: usize,
 }
 
 // The same before two places are held against each other, with a limit that every live place is below.
-#[derive(Drop)]
+#[derive(Clone, Copy)]
 pub struct TableChecked {
     pub ok: bool,
     pub live: usize,

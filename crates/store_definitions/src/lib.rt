@@ -7,7 +7,7 @@ use placement::Laid;
 use terms::{LabelIndex, PointIndex, Refusal};
 
 // The record of a store, under the Rust's names. What the Rust keeps in vectors is lent beside it.
-#[derive(Drop)]
+#[derive(Clone, Copy)]
 pub struct Store {
     pub dimensions: usize,
     pub shingle_size: usize,
@@ -28,7 +28,7 @@ pub struct Store {
 }
 
 // What opening takes besides the memory.
-#[derive(Drop)]
+#[derive(Clone, Copy)]
 pub struct Shape {
     pub dimensions: usize,
     pub shingle_size: usize,
@@ -41,7 +41,7 @@ pub struct Shape {
 
 // What a kept add gives: the point's index, the label's index (none with labels off), how the row was laid and how many point indices
 // remain free.
-#[derive(Drop)]
+#[derive(Clone, Copy)]
 pub struct Kept {
     pub index: PointIndex,
     pub label: LabelIndex,
@@ -49,7 +49,7 @@ pub struct Kept {
     pub free_indices: usize,
 }
 
-#[derive(Drop)]
+#[derive(Clone, Copy)]
 pub enum Added {
     Kept(Kept),
     Waiting,
@@ -57,26 +57,26 @@ pub enum Added {
 }
 
 // The answer of a call that has no value.
-#[derive(Drop)]
+#[derive(Clone, Copy)]
 pub enum Done {
     Done,
     Refused(Refusal),
 }
 
 // An adjust's answer: a refusal comes with how many pairs stand before the refused one.
-#[derive(Drop)]
+#[derive(Clone, Copy)]
 pub enum Adjusted {
     Done,
     Refused(Refusal, usize),
 }
 
-#[derive(Drop)]
+#[derive(Clone, Copy)]
 pub enum Number {
     Is(usize),
     Refused(Refusal),
 }
 
-#[derive(Drop)]
+#[derive(Clone, Copy)]
 pub enum Equality {
     Is(bool),
     Refused(Refusal),
@@ -84,7 +84,7 @@ pub enum Equality {
 
 // A point index with a label index: what an inc or a dec takes.
 #[repr(C)]
-#[derive(Drop)]
+#[derive(Clone, Copy)]
 pub struct Change {
     pub index: PointIndex,
     pub label: LabelIndex,
@@ -92,7 +92,7 @@ pub struct Change {
 
 // One pair of an adjust list.
 #[repr(C)]
-#[derive(Drop)]
+#[derive(Clone, Copy)]
 pub struct Pair {
     pub insert: Change,
     pub delete: Change,
@@ -100,26 +100,26 @@ pub struct Pair {
 
 // One item of a sum's list.
 #[repr(C)]
-#[derive(Drop)]
+#[derive(Clone, Copy)]
 pub struct Item {
     pub index: PointIndex,
     pub weight: usize,
 }
 
 // The record after a call, with its answer. A refused opening gives a record of zeros.
-#[derive(Drop)]
+#[derive(Clone, Copy)]
 pub struct DoneResult {
     pub store: Store,
     pub answer: Done,
 }
 
-#[derive(Drop)]
+#[derive(Clone, Copy)]
 pub struct AddResult {
     pub store: Store,
     pub answer: Added,
 }
 
-#[derive(Drop)]
+#[derive(Clone, Copy)]
 pub struct AdjustResult {
     pub store: Store,
     pub answer: Adjusted,

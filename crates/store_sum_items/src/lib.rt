@@ -25,7 +25,7 @@ use store_definitions::{Done, Item, Store};
 use terms::{FloatBits, Refusal};
 
 // What stands before a turn: the answer so far, whether rows are added in this pass, and the item of the turn.
-#[derive(Drop)]
+#[derive(Clone, Copy)]
 pub struct SumStep {
     pub answer: Done,
     pub adds: bool,

@@ -6,7 +6,7 @@ ghost use Rattle.std.specs.Prelude.{◌≡◌};
 ghost use Rattle.terms.specs.Refusals.{number};
 
 // Why a call was refused: one case for each number, document 01's and then document 02's, in their order.
-#[derive(Drop)]
+#[derive(Clone, Copy)]
 pub enum Refusal {
     IllFormed,
     Shape,
@@ -30,12 +30,12 @@ pub enum Refusal {
 
 // The index of a point. A tuple struct of its own, so that a label's index cannot stand in its place.
 #[repr(C)]
-#[derive(Drop)]
+#[derive(Clone, Copy)]
 pub struct PointIndex(pub usize);
 
 // The index of a label.
 #[repr(C)]
-#[derive(Drop)]
+#[derive(Clone, Copy)]
 pub struct LabelIndex(pub usize);
 
 // A binary32 float, held as its 32 bits.

@@ -3,7 +3,7 @@ use block::{Block, attributes_of, sum_points};
 use float_bits::word_of_float;
 use store_definitions::Done;
 
-#[derive(Drop)]
+#[derive(Clone, Copy)]
 pub struct Summed {
     pub row: [u32; 4],
     pub answer: Done,
@@ -21,7 +21,7 @@ pub fn sum_rows(b: Block, items: &[[usize; 2]]) -> Summed {
     Summed { row, answer: r }
 }
 
-#[derive(Drop)]
+#[derive(Clone, Copy)]
 pub struct Vector {
     pub floats: [u32; 10],
     pub answer: Done,
