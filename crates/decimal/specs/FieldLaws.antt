@@ -65,9 +65,9 @@ field_read_lem w n h = rw (length_field w n, value_field w n h, same_refl (field
 
 -- ---- what is accepted
 
-pub is_field : (bs : List ℕ) (n : ℕ) → is_field bs n ≡ true → bs ≡ field (length bs) n
+pub is_field_lem : (bs : List ℕ) (n : ℕ) → is_field bs n ≡ true → bs ≡ field (length bs) n
 unfolding is_field
-is_field bs n e = same_equal bs (field (length bs) n) e
+is_field_lem bs n e = same_equal bs (field (length bs) n) e
 
 number_read : (t : Bool) (v n : ℕ) → cond t (Number v) NoField ≡ Number n → (t ≡ true) × (v ≡ n)
 number_read true v n e = (refl, cc)
@@ -78,7 +78,7 @@ pub accepted_is_written : (bs : List ℕ) (n : ℕ) → field_read bs ≡ Number
 unfolding field_read
 accepted_is_written bs n e =
     let p = number_read (is_field bs (value bs)) (value bs) n e in
-    is_field bs (value bs) p.0 ∙ ap (λ (k : ℕ). field (length bs) k) p.1
+    is_field_lem bs (value bs) p.0 ∙ ap (λ (k : ℕ). field (length bs) k) p.1
 
 -- ---- a field's value is below 10 to the number of its columns
 

@@ -1,0 +1,16 @@
+-- The loop keeps that the columns left of k, before what is written, make the field.
+use borrow.Author.Rules.{rules}
+use Prim.Native.Nat.{◌≤◌}
+use mathlib.Core.List.{◌++◌}
+use mathlib.Core.Path.{◌≡◌, ◌∙◌}
+use native.Mathlib.Omega.{arith}
+use lib.ListN.{length, drop, length-set}
+use Rattle.decimal.specs.Field.{columns, field}
+use Rattle.decimal.specs.WriterTurns.{field_none, last_written, column_written, columns_none}
+use Rattle.decimal.proofs.write.write_field.Given as goal
+
+abbrev pub invariant-loop-k : goal.invariant-loop-k
+invariant-loop-k l = (l.k ≤ length l.out) × ((length l.out ≡ l.width) × (columns l.k l.rest ++ drop l.k l.out ≡ field l.width l.number))
+
+abbrev pub decreases-loop-k : goal.decreases-loop-k
+decreases-loop-k l = l.k
