@@ -1,10 +1,10 @@
 // What a hold does once its store's add is done: a kept point joins the list, and the oldest is given up once there are too many.
 ghost use Rattle.std.specs.Prelude.{cond, true, ◌≡◌, ◌<◌, length, get_or};
-ghost use Rattle.hold_definitions.specs.Lent.{hold_held, hold_entered, hold_left};
+ghost use Rattle.hold_definitions.specs.Lent.{hold_held};
 ghost use Rattle.hold_definitions.specs.Memory.{point_hold};
 ghost use Rattle.labels.specs.Decisions.{none};
 ghost use Rattle.store_definitions.specs.Answers.{added_means};
-ghost use Rattle.store_definitions.specs.Lent.{held, entered};
+ghost use Rattle.store_definitions.specs.Lent.{held};
 ghost use Rattle.store_definitions.specs.Memory.{point_store};
 ghost use Rattle.hold.specs.Keeping.{given_in, KeepReady, kept_if};
 
@@ -81,8 +81,8 @@ pub fn keep_point(
     held_indices: &mut [u16],
     held_labels: &mut [u16],
 ) -> Hold
-    requires { KeepReady given (point_hold h (hold_held store last_known_shingle reference_count location index_starts index_ends labels label_attributes label_count label_starts label_ends attributes attribute_count attribute_starts attribute_ends held_indices held_labels)) (point_store after (held store last_known_shingle reference_count location index_starts index_ends labels label_attributes label_count label_starts label_ends attributes attribute_count attribute_starts attribute_ends)) }
-    ensures { point_hold result (hold_left store last_known_shingle reference_count location index_starts index_ends labels label_attributes label_count label_starts label_ends attributes attribute_count attribute_starts attribute_ends held_indices held_labels) ≡ kept_if given (point_hold h (hold_entered store last_known_shingle reference_count location index_starts index_ends labels label_attributes label_count label_starts label_ends attributes attribute_count attribute_starts attribute_ends held_indices held_labels)) (point_store after (entered store last_known_shingle reference_count location index_starts index_ends labels label_attributes label_count label_starts label_ends attributes attribute_count attribute_starts attribute_ends)) }
+    requires { KeepReady given (point_hold h (hold_held store.now last_known_shingle.now reference_count.old location.old index_starts.old index_ends.old labels.now label_attributes.now label_count.old label_starts.old label_ends.old attributes.now attribute_count.old attribute_starts.old attribute_ends.old held_indices.old held_labels.old)) (point_store after (held store.now last_known_shingle.now reference_count.old location.old index_starts.old index_ends.old labels.now label_attributes.now label_count.old label_starts.old label_ends.old attributes.now attribute_count.old attribute_starts.old attribute_ends.old)) }
+    ensures { point_hold result (hold_held store.now last_known_shingle.now reference_count.new location.new index_starts.new index_ends.new labels.now label_attributes.now label_count.new label_starts.new label_ends.new attributes.now attribute_count.new attribute_starts.new attribute_ends.new held_indices.new held_labels.new) ≡ kept_if given (point_hold h (hold_held store.now last_known_shingle.now reference_count.old location.old index_starts.old index_ends.old labels.now label_attributes.now label_count.old label_starts.old label_ends.old attributes.now attribute_count.old attribute_starts.old attribute_ends.old held_indices.old held_labels.old)) (point_store after (held store.now last_known_shingle.now reference_count.old location.old index_starts.old index_ends.old labels.now label_attributes.now label_count.old label_starts.old label_ends.old attributes.now attribute_count.old attribute_starts.old attribute_ends.old)) }
 {
     if given.kept {
         if h.held < h.width {

@@ -6,13 +6,13 @@ ghost use Rattle.std.specs.Prelude.{true, ◌≡◌};
 ghost use Rattle.float_bits.specs.Words.{words_equal};
 ghost use Rattle.hold_definitions.specs.Adding.{hold_added, hold_add_spec};
 ghost use Rattle.hold_definitions.specs.Answers.{hold_outcome};
-ghost use Rattle.hold_definitions.specs.Lent.{hold_held, hold_entered, hold_left};
+ghost use Rattle.hold_definitions.specs.Lent.{hold_held};
 ghost use Rattle.hold_definitions.specs.Memory.{point_hold, store_of};
 ghost use Rattle.hold_definitions.specs.WellFormed.{hold_well_formed};
 ghost use Rattle.store_check.specs.Figures.{FiguresOf};
 ghost use Rattle.store_definitions.specs.Adding.{add_spec};
 ghost use Rattle.store_definitions.specs.Answers.{added_means};
-ghost use Rattle.store_definitions.specs.Lent.{entered};
+ghost use Rattle.store_definitions.specs.Lent.{held};
 ghost use Rattle.store_definitions.specs.Memory.{point_store};
 
 mod keep;
@@ -50,8 +50,8 @@ fn add_checked(
     label: usize,
     figures: Figures,
 ) -> HoldAddResult
-    requires { (hold_well_formed (point_hold h (hold_held store last_known_shingle reference_count location index_starts index_ends labels label_attributes label_count label_starts label_ends attributes attribute_count attribute_starts attribute_ends held_indices held_labels)) ≡ true) × FiguresOf figures (store_of (point_hold h (hold_held store last_known_shingle reference_count location index_starts index_ends labels label_attributes label_count label_starts label_ends attributes attribute_count attribute_starts attribute_ends held_indices held_labels))) }
-    ensures { hold_outcome (added_means result.answer) (point_hold result.hold (hold_left store last_known_shingle reference_count location index_starts index_ends labels label_attributes label_count label_starts label_ends attributes attribute_count attribute_starts attribute_ends held_indices held_labels)) ≡ hold_added (point_hold h (hold_entered store last_known_shingle reference_count location index_starts index_ends labels label_attributes label_count label_starts label_ends attributes attribute_count attribute_starts attribute_ends held_indices held_labels)) (add_spec words_equal 0 (point_store h.store (entered store last_known_shingle reference_count location index_starts index_ends labels label_attributes label_count label_starts label_ends attributes attribute_count attribute_starts attribute_ends)) point.now label) }
+    requires { (hold_well_formed (point_hold h (hold_held store.old last_known_shingle.old reference_count.old location.old index_starts.old index_ends.old labels.old label_attributes.old label_count.old label_starts.old label_ends.old attributes.old attribute_count.old attribute_starts.old attribute_ends.old held_indices.old held_labels.old)) ≡ true) × FiguresOf figures (store_of (point_hold h (hold_held store.old last_known_shingle.old reference_count.old location.old index_starts.old index_ends.old labels.old label_attributes.old label_count.old label_starts.old label_ends.old attributes.old attribute_count.old attribute_starts.old attribute_ends.old held_indices.old held_labels.old))) }
+    ensures { hold_outcome (added_means result.answer) (point_hold result.hold (hold_held store.new last_known_shingle.new reference_count.new location.new index_starts.new index_ends.new labels.new label_attributes.new label_count.new label_starts.new label_ends.new attributes.new attribute_count.new attribute_starts.new attribute_ends.new held_indices.new held_labels.new)) ≡ hold_added (point_hold h (hold_held store.old last_known_shingle.old reference_count.old location.old index_starts.old index_ends.old labels.old label_attributes.old label_count.old label_starts.old label_ends.old attributes.old attribute_count.old attribute_starts.old attribute_ends.old held_indices.old held_labels.old)) (add_spec words_equal 0 (point_store h.store (held store.old last_known_shingle.old reference_count.old location.old index_starts.old index_ends.old labels.old label_attributes.old label_count.old label_starts.old label_ends.old attributes.old attribute_count.old attribute_starts.old attribute_ends.old)) point.now label) }
 {
     let s = h.store;
     let changes = add_unchecked(
@@ -125,7 +125,7 @@ pub fn add(
     point: &[FloatBits],
     label: usize,
 ) -> HoldAddResult
-    ensures { hold_outcome (added_means result.answer) (point_hold result.hold (hold_left store last_known_shingle reference_count location index_starts index_ends labels label_attributes label_count label_starts label_ends attributes attribute_count attribute_starts attribute_ends held_indices held_labels)) ≡ hold_add_spec words_equal 0 (point_hold h (hold_entered store last_known_shingle reference_count location index_starts index_ends labels label_attributes label_count label_starts label_ends attributes attribute_count attribute_starts attribute_ends held_indices held_labels)) point.now label }
+    ensures { hold_outcome (added_means result.answer) (point_hold result.hold (hold_held store.new last_known_shingle.new reference_count.new location.new index_starts.new index_ends.new labels.new label_attributes.new label_count.new label_starts.new label_ends.new attributes.new attribute_count.new attribute_starts.new attribute_ends.new held_indices.new held_labels.new)) ≡ hold_add_spec words_equal 0 (point_hold h (hold_held store.old last_known_shingle.old reference_count.old location.old index_starts.old index_ends.old labels.old label_attributes.old label_count.old label_starts.old label_ends.old attributes.old attribute_count.old attribute_starts.old attribute_ends.old held_indices.old held_labels.old)) point.now label }
 {
     let checked = check_hold(
         h,

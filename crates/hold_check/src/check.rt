@@ -1,6 +1,6 @@
 // The check of a hold: of its record, of its store and of its list.
 ghost use Rattle.std.specs.Prelude.{◌≡◌, true, cond, nat_le};
-ghost use Rattle.hold_definitions.specs.Lent.{hold_entered};
+ghost use Rattle.hold_definitions.specs.Lent.{hold_held};
 ghost use Rattle.hold_definitions.specs.Memory.{point_hold, store_of};
 ghost use Rattle.hold_definitions.specs.WellFormed.{hold_well_formed};
 ghost use Rattle.store_check.specs.Figures.{FiguresOf};
@@ -65,7 +65,7 @@ pub fn check_hold(
     held_indices: &[u16],
     held_labels: &[u16],
 ) -> HoldChecked
-    ensures { (result.ok ≡ hold_well_formed (point_hold h (hold_entered store last_known_shingle reference_count location index_starts index_ends labels label_attributes label_count label_starts label_ends attributes attribute_count attribute_starts attribute_ends held_indices held_labels))) × ((result.ok ≡ true → FiguresOf result.figures (store_of (point_hold h (hold_entered store last_known_shingle reference_count location index_starts index_ends labels label_attributes label_count label_starts label_ends attributes attribute_count attribute_starts attribute_ends held_indices held_labels))))) }
+    ensures { (result.ok ≡ hold_well_formed (point_hold h (hold_held store.now last_known_shingle.now reference_count.now location.now index_starts.now index_ends.now labels.now label_attributes.now label_count.now label_starts.now label_ends.now attributes.now attribute_count.now attribute_starts.now attribute_ends.now held_indices.now held_labels.now))) × ((result.ok ≡ true → FiguresOf result.figures (store_of (point_hold h (hold_held store.now last_known_shingle.now reference_count.now location.now index_starts.now index_ends.now labels.now label_attributes.now label_count.now label_starts.now label_ends.now attributes.now attribute_count.now attribute_starts.now attribute_ends.now held_indices.now held_labels.now))))) }
 {
     let s = h.store;
     if record_holds(

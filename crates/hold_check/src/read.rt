@@ -1,6 +1,6 @@
 // The readings of a hold.
 ghost use Rattle.std.specs.Prelude.{◌≡◌, ◌≤◌, length, take};
-ghost use Rattle.hold_definitions.specs.Lent.{hold_entered};
+ghost use Rattle.hold_definitions.specs.Lent.{hold_held};
 ghost use Rattle.hold_definitions.specs.Memory.{point_hold};
 ghost use Rattle.hold_definitions.specs.Readings.{held_spec, held_number_spec};
 ghost use Rattle.store_definitions.specs.Answers.{done_means, number_means, output};
@@ -44,7 +44,7 @@ pub fn held(
     held_labels: &[u16],
     out: &mut [u16],
 ) -> Done
-    ensures { output (done_means result) out.new ≡ held_spec (point_hold h (hold_entered store last_known_shingle reference_count location index_starts index_ends labels label_attributes label_count label_starts label_ends attributes attribute_count attribute_starts attribute_ends held_indices held_labels)) out.old }
+    ensures { output (done_means result) out.new ≡ held_spec (point_hold h (hold_held store.now last_known_shingle.now reference_count.now location.now index_starts.now index_ends.now labels.now label_attributes.now label_count.now label_starts.now label_ends.now attributes.now attribute_count.now attribute_starts.now attribute_ends.now held_indices.now held_labels.now)) out.old }
 {
     let checked = check_hold(
         h,
@@ -98,7 +98,7 @@ pub fn held_number(
     held_indices: &[u16],
     held_labels: &[u16],
 ) -> Number
-    ensures { number_means result ≡ held_number_spec (point_hold h (hold_entered store last_known_shingle reference_count location index_starts index_ends labels label_attributes label_count label_starts label_ends attributes attribute_count attribute_starts attribute_ends held_indices held_labels)) }
+    ensures { number_means result ≡ held_number_spec (point_hold h (hold_held store.now last_known_shingle.now reference_count.now location.now index_starts.now index_ends.now labels.now label_attributes.now label_count.now label_starts.now label_ends.now attributes.now attribute_count.now attribute_starts.now attribute_ends.now held_indices.now held_labels.now)) }
 {
     let checked = check_hold(
         h,

@@ -7,7 +7,7 @@ ghost use Rattle.store_definitions.specs.WellFormed.{well_formed, places_distinc
 ghost use Rattle.store_check.specs.Entries.{counts_live, PlacesBelow};
 ghost use Rattle.store_check.specs.Figures.{FiguresOf};
 ghost use Rattle.store_check.specs.PointsTest.{points_test, PointsReady};
-ghost use Rattle.store_check.specs.Tables.{tables_at_entry};
+
 ghost use Rattle.hold_check.specs.Rising.{single_counts, ListKnown};
 
 use crate::list::counts_single;
@@ -126,7 +126,7 @@ pub fn store_well(
     held_indices: &[u16],
 ) -> StoreListed
     requires { held ≤ length held_indices.now }
-    ensures { (result.ok ≡ well_formed (point_store s (tables_at_entry floats window reference_count location index_starts index_ends labels label_attributes label_count label_starts label_ends attributes attribute_count attribute_starts attribute_ends))) × ((result.ok ≡ true → FiguresOf result.figures (point_store s (tables_at_entry floats window reference_count location index_starts index_ends labels label_attributes label_count label_starts label_ends attributes attribute_count attribute_starts attribute_ends)) × ListKnown (table_length s) held result.figures.live reference_count.now held_indices.now result.listed)) }
+    ensures { (result.ok ≡ well_formed (point_store s (tables floats window reference_count.now location.now index_starts.now index_ends.now labels.now label_attributes.now label_count.now label_starts.now label_ends.now attributes.now attribute_count.now attribute_starts.now attribute_ends.now))) × ((result.ok ≡ true → FiguresOf result.figures (point_store s (tables floats window reference_count.now location.now index_starts.now index_ends.now labels.now label_attributes.now label_count.now label_starts.now label_ends.now attributes.now attribute_count.now attribute_starts.now attribute_ends.now)) × ListKnown (table_length s) held result.figures.live reference_count.now held_indices.now result.listed)) }
 {
     let lent = Lengths {
         floats,

@@ -6,12 +6,12 @@ use Rattle.hold_definitions.specs.Memory.{HoldMemory}
 
 abbrev pub hold_held : Ref → Ref → Ref → Ref → Ref → Ref → Ref → Ref → Ref → Ref → Ref → Ref → Ref → Ref → Ref → Ref → Ref → HoldMemory ℕ
 hold_held a b c d e f g h i j k l m n o indices labels =
-    record { store = held a b c d e f g h i j k l m n o; held_indices = indices.now; held_labels = labels.now }
+    record { store = held a b c d e f g h i j k l m n o; held_indices = indices; held_labels = labels }
 
 abbrev pub hold_entered : Slice → Slice → Slice → Slice → Slice → Slice → Slice → Slice → Slice → Slice → Slice → Slice → Slice → Slice → Slice → Slice → Slice → HoldMemory ℕ
 hold_entered a b c d e f g h i j k l m n o indices labels =
-    record { store = entered a b c d e f g h i j k l m n o; held_indices = indices.entry.now; held_labels = labels.entry.now }
+    record { store = entered a b c d e f g h i j k l m n o; held_indices = indices.entry; held_labels = labels.entry }
 
 abbrev pub hold_left : Slice → Slice → Slice → Slice → Slice → Slice → Slice → Slice → Slice → Slice → Slice → Slice → Slice → Slice → Slice → Slice → Slice → HoldMemory ℕ
 hold_left a b c d e f g h i j k l m n o indices labels =
-    record { store = left a b c d e f g h i j k l m n o; held_indices = indices.exit.now; held_labels = labels.exit.now }
+    record { store = left a b c d e f g h i j k l m n o; held_indices = indices.exit; held_labels = labels.exit }

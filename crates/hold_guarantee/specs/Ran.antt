@@ -21,9 +21,9 @@ use Rattle.hold_guarantee.specs.Run.{HoldAdd}
 pub data HoldOpened : Shape → ℕ → List ℕ → HoldMemory ℕ → PointHold ℕ → Type 0 where
   -- hold_opening::open_hold
   opens : (shape : Shape) (width : ℕ) (store last_known_shingle reference_count location index_starts index_ends labels label_attributes label_count label_starts label_ends attributes attribute_count attribute_starts attribute_ends held_indices held_labels class_text : Slice) (r : HoldDoneResult)
-      → hold_outcome (done_means r.answer) (point_hold r.hold (hold_left store last_known_shingle reference_count location index_starts index_ends labels label_attributes label_count label_starts label_ends attributes attribute_count attribute_starts attribute_ends held_indices held_labels)) ≡ hold_open_spec 0 shape width class_text.entry.now (hold_entered store last_known_shingle reference_count location index_starts index_ends labels label_attributes label_count label_starts label_ends attributes attribute_count attribute_starts attribute_ends held_indices held_labels)
+      → hold_outcome (done_means r.answer) (point_hold r.hold (hold_left store last_known_shingle reference_count location index_starts index_ends labels label_attributes label_count label_starts label_ends attributes attribute_count attribute_starts attribute_ends held_indices held_labels)) ≡ hold_open_spec 0 shape width class_text.entry (hold_entered store last_known_shingle reference_count location index_starts index_ends labels label_attributes label_count label_starts label_ends attributes attribute_count attribute_starts attribute_ends held_indices held_labels)
       → r.answer ≡ at_done.Done
-      → HoldOpened shape width class_text.entry.now (hold_entered store last_known_shingle reference_count location index_starts index_ends labels label_attributes label_count label_starts label_ends attributes attribute_count attribute_starts attribute_ends held_indices held_labels) (point_hold r.hold (hold_left store last_known_shingle reference_count location index_starts index_ends labels label_attributes label_count label_starts label_ends attributes attribute_count attribute_starts attribute_ends held_indices held_labels))
+      → HoldOpened shape width class_text.entry (hold_entered store last_known_shingle reference_count location index_starts index_ends labels label_attributes label_count label_starts label_ends attributes attribute_count attribute_starts attribute_ends held_indices held_labels) (point_hold r.hold (hold_left store last_known_shingle reference_count location index_starts index_ends labels label_attributes label_count label_starts label_ends attributes attribute_count attribute_starts attribute_ends held_indices held_labels))
 
 -- the adds made on a hold, their answers, and the hold that they left
 pub data HoldRan (start : PointHold ℕ) : List (HoldAdd ℕ) → List Answer → PointHold ℕ → Type 0 where
@@ -31,5 +31,5 @@ pub data HoldRan (start : PointHold ℕ) : List (HoldAdd ℕ) → List Answer �
   -- hold::add
   adds : {before : List (HoldAdd ℕ)} {answers : List Answer} (h : Hold) (store last_known_shingle reference_count location index_starts index_ends labels label_attributes label_count label_starts label_ends attributes attribute_count attribute_starts attribute_ends held_indices held_labels : Slice) (point : Slice) (label : ℕ) (r : HoldAddResult)
       → HoldRan start before answers (point_hold h (hold_entered store last_known_shingle reference_count location index_starts index_ends labels label_attributes label_count label_starts label_ends attributes attribute_count attribute_starts attribute_ends held_indices held_labels))
-      → hold_outcome (added_means r.answer) (point_hold r.hold (hold_left store last_known_shingle reference_count location index_starts index_ends labels label_attributes label_count label_starts label_ends attributes attribute_count attribute_starts attribute_ends held_indices held_labels)) ≡ hold_add_spec words_equal 0 (point_hold h (hold_entered store last_known_shingle reference_count location index_starts index_ends labels label_attributes label_count label_starts label_ends attributes attribute_count attribute_starts attribute_ends held_indices held_labels)) point.entry.now label
-      → HoldRan start (record { point = point.entry.now; code = label } ∷ before) (added_means r.answer ∷ answers) (point_hold r.hold (hold_left store last_known_shingle reference_count location index_starts index_ends labels label_attributes label_count label_starts label_ends attributes attribute_count attribute_starts attribute_ends held_indices held_labels))
+      → hold_outcome (added_means r.answer) (point_hold r.hold (hold_left store last_known_shingle reference_count location index_starts index_ends labels label_attributes label_count label_starts label_ends attributes attribute_count attribute_starts attribute_ends held_indices held_labels)) ≡ hold_add_spec words_equal 0 (point_hold h (hold_entered store last_known_shingle reference_count location index_starts index_ends labels label_attributes label_count label_starts label_ends attributes attribute_count attribute_starts attribute_ends held_indices held_labels)) point.entry label
+      → HoldRan start (record { point = point.entry; code = label } ∷ before) (added_means r.answer ∷ answers) (point_hold r.hold (hold_left store last_known_shingle reference_count location index_starts index_ends labels label_attributes label_count label_starts label_ends attributes attribute_count attribute_starts attribute_ends held_indices held_labels))

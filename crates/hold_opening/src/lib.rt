@@ -3,7 +3,7 @@
 
 ghost use Rattle.std.specs.Prelude.{◌≡◌};
 ghost use Rattle.hold_definitions.specs.Answers.{hold_outcome};
-ghost use Rattle.hold_definitions.specs.Lent.{hold_entered, hold_left};
+ghost use Rattle.hold_definitions.specs.Lent.{hold_held};
 ghost use Rattle.hold_definitions.specs.Memory.{point_hold};
 ghost use Rattle.hold_definitions.specs.Opening.{no_hold, hold_open_spec};
 ghost use Rattle.interval_store_manager.specs.Calls.{decision_means};
@@ -139,7 +139,7 @@ pub fn open_hold(
     held_labels: &[u16],
     class_text: &[u8],
 ) -> HoldDoneResult
-    ensures { hold_outcome (done_means result.answer) (point_hold result.hold (hold_left store last_known_shingle reference_count location index_starts index_ends labels label_attributes label_count label_starts label_ends attributes attribute_count attribute_starts attribute_ends held_indices held_labels)) ≡ hold_open_spec 0 shape width class_text.now (hold_entered store last_known_shingle reference_count location index_starts index_ends labels label_attributes label_count label_starts label_ends attributes attribute_count attribute_starts attribute_ends held_indices held_labels) }
+    ensures { hold_outcome (done_means result.answer) (point_hold result.hold (hold_held store.new last_known_shingle.new reference_count.new location.new index_starts.new index_ends.new labels.new label_attributes.new label_count.new label_starts.new label_ends.new attributes.new attribute_count.new attribute_starts.new attribute_ends.new held_indices.now held_labels.now)) ≡ hold_open_spec 0 shape width class_text.now (hold_held store.old last_known_shingle.old reference_count.old location.old index_starts.old index_ends.old labels.old label_attributes.old label_count.old label_starts.old label_ends.old attributes.old attribute_count.old attribute_starts.old attribute_ends.old held_indices.now held_labels.now) }
 {
     let d = open_decision(shape, width, held_indices.len(), held_labels.len());
     match d {

@@ -4,7 +4,7 @@
 
 ghost use Rattle.std.specs.Prelude.{true, ◌≡◌};
 ghost use Rattle.labels.specs.Labels.{tables_lent, labels_well, labels_ok};
-ghost use Rattle.labels.specs.Forms.{entered, FreeOf};
+ghost use Rattle.labels.specs.Forms.{held, FreeOf};
 
 mod label_pass;
 mod slot_pass;
@@ -61,7 +61,7 @@ fn label_half_well_formed(
     attribute_starts: &[u16],
     attribute_ends: &[u16],
 ) -> LabelsChecked
-    ensures { (result.ok ≡ labels_well classes.now capacity (entered managers labels label_attributes label_count label_starts label_ends attributes attribute_count attribute_starts attribute_ends)) × ((result.ok ≡ true → FreeOf result.free (entered managers labels label_attributes label_count label_starts label_ends attributes attribute_count attribute_starts attribute_ends))) }
+    ensures { (result.ok ≡ labels_well classes.now capacity (held managers labels.now label_attributes.now label_count.now label_starts.now label_ends.now attributes.now attribute_count.now attribute_starts.now attribute_ends.now)) × ((result.ok ≡ true → FreeOf result.free (held managers labels.now label_attributes.now label_count.now label_starts.now label_ends.now attributes.now attribute_count.now attribute_starts.now attribute_ends.now))) }
 {
     let label_manager = managers.label_manager;
     let attribute_manager = managers.attribute_manager;
@@ -157,7 +157,7 @@ pub fn labels_well_formed(
     attribute_starts: &[u16],
     attribute_ends: &[u16],
 ) -> LabelsChecked
-    ensures { (result.ok ≡ labels_ok store_labels classes.now capacity (entered managers labels label_attributes label_count label_starts label_ends attributes attribute_count attribute_starts attribute_ends)) × ((result.ok ≡ true → store_labels ≡ true → FreeOf result.free (entered managers labels label_attributes label_count label_starts label_ends attributes attribute_count attribute_starts attribute_ends))) }
+    ensures { (result.ok ≡ labels_ok store_labels classes.now capacity (held managers labels.now label_attributes.now label_count.now label_starts.now label_ends.now attributes.now attribute_count.now attribute_starts.now attribute_ends.now)) × ((result.ok ≡ true → store_labels ≡ true → FreeOf result.free (held managers labels.now label_attributes.now label_count.now label_starts.now label_ends.now attributes.now attribute_count.now attribute_starts.now attribute_ends.now))) }
 {
     if store_labels {
         return label_half_well_formed(

@@ -6,7 +6,7 @@ ghost use Rattle.interval_store_manager.specs.Answers.{opened, opening};
 ghost use Rattle.interval_store_manager.specs.Calls.{new_spec};
 ghost use Rattle.labels.specs.Opening.{cleared, labels_opened, Openable};
 ghost use Rattle.label_opening.specs.OpeningLaws.{LabelsOpenable};
-ghost use Rattle.labels.specs.Forms.{entered, left};
+ghost use Rattle.labels.specs.Forms.{held};
 
 use interval_store_manager::{IntervalStoreManager, Opened};
 use labels::LabelManagers;
@@ -73,7 +73,7 @@ pub fn open_labels(
     attribute_ends: &mut [u16],
 ) -> LabelManagers
     requires { LabelsOpenable capacity labels.old label_attributes.old label_count.old label_starts.old label_ends.old attributes.old attribute_count.old attribute_starts.old attribute_ends.old }
-    ensures { left result labels label_attributes label_count label_starts label_ends attributes attribute_count attribute_starts attribute_ends ≡ labels_opened capacity (entered result labels label_attributes label_count label_starts label_ends attributes attribute_count attribute_starts attribute_ends) }
+    ensures { held result labels.new label_attributes.new label_count.new label_starts.new label_ends.new attributes.new attribute_count.new attribute_starts.new attribute_ends.new ≡ labels_opened capacity (held result labels.old label_attributes.old label_count.old label_starts.old label_ends.old attributes.old attribute_count.old attribute_starts.old attribute_ends.old) }
 {
     clear_u8(labels, capacity);
     clear_u16(label_attributes, capacity);

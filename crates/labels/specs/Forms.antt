@@ -1,7 +1,6 @@
 -- The label half as the contracts see it: the managers and the nine lent slices as one record, and what the functions under
 -- take, inc and dec ask of their part.
 use Rattle.std.specs.Prelude.{ℕ, ◌≤◌, ◌<◌, List, ◌≡◌, length}
-use Rattle.std.specs.Borrow.{Bor}
 use denote.Triple.Both.{Both}
 use Rattle.terms.specs.declared.LabelIndex.{LabelIndex}
 use Rattle.labels.specs.declared.LabelManagers.{LabelManagers}
@@ -12,7 +11,7 @@ use Rattle.labels.specs.Labels.{Labels, SlotTaken, LabelTaken}
 
 -- a slice parameter, as a `requires` and as an `ensures` sees it
 abbrev pub Ref : Type 0
-Ref = Bor (List ℕ)
+Ref = List ℕ
 
 abbrev pub Slice : Type 0
 Slice = Both Ref Ref
@@ -29,7 +28,7 @@ label_half m labels slots counts starts ends classes slot_counts slot_starts slo
 
 -- where a call is asked for, when it began, and when it ended
 abbrev pub held : LabelManagers → Ref → Ref → Ref → Ref → Ref → Ref → Ref → Ref → Ref → Labels
-held m a b c d e f g h i = label_half m a.now b.now c.now d.now e.now f.now g.now h.now i.now
+held m a b c d e f g h i = label_half m a b c d e f g h i
 
 abbrev pub entered : LabelManagers → Slice → Slice → Slice → Slice → Slice → Slice → Slice → Slice → Slice → Labels
 entered m a b c d e f g h i =

@@ -3,7 +3,7 @@
 ghost use Rattle.std.specs.Prelude.{true, ◌≡◌, ◌<◌, get_or};
 ghost use Rattle.labels.specs.Counted.{counted, lowered};
 ghost use Rattle.labels.specs.Labels.{labels_well, label_raised, label_lowered};
-ghost use Rattle.labels.specs.Forms.{InUse, held, entered, left};
+ghost use Rattle.labels.specs.Forms.{InUse, held};
 
 use crate::LabelManagers;
 use interval_store_manager::IntervalStoreManager;
@@ -24,8 +24,8 @@ pub fn inc_label(
     attribute_ends: &[u16],
     label: LabelIndex,
 )
-    requires { (labels_well classes.now capacity (held managers labels label_attributes label_count label_starts label_ends attributes attribute_count attribute_starts attribute_ends) ≡ true) × ((label.0 < capacity) × ((0 < get_or label_count.old label.0 0) × (get_or label_count.old label.0 0 < 65535))) }
-    ensures { left managers labels label_attributes label_count label_starts label_ends attributes attribute_count attribute_starts attribute_ends ≡ label_raised (entered managers labels label_attributes label_count label_starts label_ends attributes attribute_count attribute_starts attribute_ends) label.0 }
+    requires { (labels_well classes.now capacity (held managers labels.now label_attributes.now label_count.old label_starts.now label_ends.now attributes.now attribute_count.old attribute_starts.now attribute_ends.now) ≡ true) × ((label.0 < capacity) × ((0 < get_or label_count.old label.0 0) × (get_or label_count.old label.0 0 < 65535))) }
+    ensures { held managers labels.now label_attributes.now label_count.new label_starts.now label_ends.now attributes.now attribute_count.new attribute_starts.now attribute_ends.now ≡ label_raised (held managers labels.now label_attributes.now label_count.old label_starts.now label_ends.now attributes.now attribute_count.old attribute_starts.now attribute_ends.now) label.0 }
 {
     let i = label.0;
     let slot = label_attributes[i] as usize;
@@ -88,8 +88,8 @@ pub fn dec_label(
     attribute_ends: &mut [u16],
     label: LabelIndex,
 ) -> LabelManagers
-    requires { (labels_well classes.now capacity (held managers labels label_attributes label_count label_starts label_ends attributes attribute_count attribute_starts attribute_ends) ≡ true) × ((label.0 < capacity) × (0 < get_or label_count.old label.0 0)) }
-    ensures { left result labels label_attributes label_count label_starts label_ends attributes attribute_count attribute_starts attribute_ends ≡ label_lowered (entered managers labels label_attributes label_count label_starts label_ends attributes attribute_count attribute_starts attribute_ends) label.0 }
+    requires { (labels_well classes.now capacity (held managers labels.now label_attributes.now label_count.old label_starts.old label_ends.old attributes.now attribute_count.old attribute_starts.old attribute_ends.old) ≡ true) × ((label.0 < capacity) × (0 < get_or label_count.old label.0 0)) }
+    ensures { held result labels.now label_attributes.now label_count.new label_starts.new label_ends.new attributes.now attribute_count.new attribute_starts.new attribute_ends.new ≡ label_lowered (held managers labels.now label_attributes.now label_count.old label_starts.old label_ends.old attributes.now attribute_count.old attribute_starts.old attribute_ends.old) label.0 }
 {
     let i = label.0;
     let slot = label_attributes[i] as usize;

@@ -3,7 +3,7 @@
 ghost use Rattle.std.specs.Prelude.{true, ◌≡◌, ◌<◌, ◌≤◌, length};
 ghost use Rattle.labels.specs.Counted.{counted};
 ghost use Rattle.labels.specs.Labels.{class_slot, slot_taken, label_taken, labels_well};
-ghost use Rattle.labels.specs.Forms.{FreeOf, SlotReady, slot_outcome, held, entered, left, label_outcome};
+ghost use Rattle.labels.specs.Forms.{FreeOf, SlotReady, slot_outcome, held, label_outcome};
 
 use crate::classes::class_of;
 use crate::{LabelManagers, LabelsFree, TakenLabel};
@@ -84,8 +84,8 @@ pub fn take_label(
     code: usize,
     free: LabelsFree,
 ) -> TakenLabel
-    requires { (labels_well classes.now capacity (held managers labels label_attributes label_count label_starts label_ends attributes attribute_count attribute_starts attribute_ends) ≡ true) × ((code ≤ 23) × ((0 < managers.label_manager.last_in_use) × FreeOf free (held managers labels label_attributes label_count label_starts label_ends attributes attribute_count attribute_starts attribute_ends))) }
-    ensures { label_outcome result.label (left result.managers labels label_attributes label_count label_starts label_ends attributes attribute_count attribute_starts attribute_ends) ≡ label_taken classes.now capacity (entered managers labels label_attributes label_count label_starts label_ends attributes attribute_count attribute_starts attribute_ends) code }
+    requires { (labels_well classes.now capacity (held managers labels.old label_attributes.old label_count.old label_starts.old label_ends.now attributes.old attribute_count.old attribute_starts.old attribute_ends.now) ≡ true) × ((code ≤ 23) × ((0 < managers.label_manager.last_in_use) × FreeOf free (held managers labels.old label_attributes.old label_count.old label_starts.old label_ends.now attributes.old attribute_count.old attribute_starts.old attribute_ends.now))) }
+    ensures { label_outcome result.label (held result.managers labels.new label_attributes.new label_count.new label_starts.new label_ends.now attributes.new attribute_count.new attribute_starts.new attribute_ends.now) ≡ label_taken classes.now capacity (held managers labels.old label_attributes.old label_count.old label_starts.old label_ends.now attributes.old attribute_count.old attribute_starts.old attribute_ends.now) code }
 {
     let class = class_of(classes, code);
     let slot_manager = managers.attribute_manager;

@@ -1,7 +1,7 @@
 // The store's page.
 ghost use Rattle.std.specs.Prelude.{◌≡◌};
 ghost use Rattle.store_definitions.specs.Answers.{number_means, output};
-ghost use Rattle.store_definitions.specs.Lent.{entered};
+ghost use Rattle.store_definitions.specs.Lent.{held};
 ghost use Rattle.store_definitions.specs.Memory.{point_store};
 ghost use Rattle.page.specs.Page.{page_spec};
 
@@ -30,7 +30,7 @@ pub fn page(
     attribute_ends: &[u16],
     text: &mut [u8],
 ) -> Number
-    ensures { output (number_means result) text.new ≡ page_spec (point_store s (entered store last_known_shingle reference_count location index_starts index_ends labels label_attributes label_count label_starts label_ends attributes attribute_count attribute_starts attribute_ends)) text.old }
+    ensures { output (number_means result) text.new ≡ page_spec (point_store s (held store.now last_known_shingle.now reference_count.now location.now index_starts.now index_ends.now labels.now label_attributes.now label_count.now label_starts.now label_ends.now attributes.now attribute_count.now attribute_starts.now attribute_ends.now)) text.old }
 {
     let checked = check(
         s,

@@ -1,7 +1,7 @@
 // The store's calls on its counts.
 ghost use Rattle.std.specs.Prelude.{◌≡◌, [], ◌∷◌};
 ghost use Rattle.store_definitions.specs.Counting.{inc_spec, dec_spec, adjust_spec, count_spec, live_number_spec, free_start_spec};
-ghost use Rattle.store_definitions.specs.Lent.{entered, left};
+ghost use Rattle.store_definitions.specs.Lent.{held};
 ghost use Rattle.store_definitions.specs.Memory.{point_store};
 ghost use Rattle.store_adjust_pairs.specs.Records.{pairings_of};
 ghost use Rattle.point_store_c.specs.ExportedStore.{exported, exported_call, read, exported_reading};
@@ -33,7 +33,7 @@ pub extern "C" fn ps_inc(
     index: usize,
     label: usize,
 ) -> u64
-    ensures { exported result words.now [] (left store last_known_shingle reference_count location index_starts index_ends labels label_attributes label_count label_starts label_ends attributes attribute_count attribute_starts attribute_ends) ≡ exported_call words.now [] (inc_spec (point_store (store_in words.now) (entered store last_known_shingle reference_count location index_starts index_ends labels label_attributes label_count label_starts label_ends attributes attribute_count attribute_starts attribute_ends)) index label) }
+    ensures { exported result words.now [] (held store.now last_known_shingle.now reference_count.new location.now index_starts.now index_ends.now labels.now label_attributes.now label_count.new label_starts.now label_ends.now attributes.now attribute_count.new attribute_starts.now attribute_ends.now) ≡ exported_call words.now [] (inc_spec (point_store (store_in words.now) (held store.now last_known_shingle.now reference_count.old location.now index_starts.now index_ends.now labels.now label_attributes.now label_count.old label_starts.now label_ends.now attributes.now attribute_count.old attribute_starts.now attribute_ends.now)) index label) }
 {
     let s = store_in(words);
     let index = PointIndex(index);
@@ -83,7 +83,7 @@ pub extern "C" fn ps_dec(
     index: usize,
     label: usize,
 ) -> u64
-    ensures { exported result words.new [] (left store last_known_shingle reference_count location index_starts index_ends labels label_attributes label_count label_starts label_ends attributes attribute_count attribute_starts attribute_ends) ≡ exported_call words.old [] (dec_spec (point_store (store_in words.old) (entered store last_known_shingle reference_count location index_starts index_ends labels label_attributes label_count label_starts label_ends attributes attribute_count attribute_starts attribute_ends)) index label) }
+    ensures { exported result words.new [] (held store.now last_known_shingle.now reference_count.new location.new index_starts.new index_ends.new labels.now label_attributes.now label_count.new label_starts.new label_ends.new attributes.now attribute_count.new attribute_starts.new attribute_ends.new) ≡ exported_call words.old [] (dec_spec (point_store (store_in words.old) (held store.now last_known_shingle.now reference_count.old location.old index_starts.old index_ends.old labels.now label_attributes.now label_count.old label_starts.old label_ends.old attributes.now attribute_count.old attribute_starts.old attribute_ends.old)) index label) }
 {
     let s = store_in(words);
     let index = PointIndex(index);
@@ -136,7 +136,7 @@ pub extern "C" fn ps_adjust(
     pairs: &[Pair],
     pairs_before: &mut u64,
 ) -> u64
-    ensures { exported result words.new (pairs_before.new ∷ []) (left store last_known_shingle reference_count location index_starts index_ends labels label_attributes label_count label_starts label_ends attributes attribute_count attribute_starts attribute_ends) ≡ exported_call words.old (pairs_before.old ∷ []) (adjust_spec (point_store (store_in words.old) (entered store last_known_shingle reference_count location index_starts index_ends labels label_attributes label_count label_starts label_ends attributes attribute_count attribute_starts attribute_ends)) (pairings_of pairs.now)) }
+    ensures { exported result words.new (pairs_before.new ∷ []) (held store.new last_known_shingle.new reference_count.new location.new index_starts.new index_ends.new labels.new label_attributes.new label_count.new label_starts.new label_ends.new attributes.new attribute_count.new attribute_starts.new attribute_ends.new) ≡ exported_call words.old (pairs_before.old ∷ []) (adjust_spec (point_store (store_in words.old) (held store.old last_known_shingle.old reference_count.old location.old index_starts.old index_ends.old labels.old label_attributes.old label_count.old label_starts.old label_ends.old attributes.old attribute_count.old attribute_starts.old attribute_ends.old)) (pairings_of pairs.now)) }
 {
     let s = lent_store_in(words);
     let result = store_adjust_pairs::adjust_count(
@@ -182,7 +182,7 @@ pub extern "C" fn ps_count(
     index: usize,
     count: &mut u64,
 ) -> u64
-    ensures { read result (count.new ∷ []) ≡ exported_reading (count.old ∷ []) (count_spec (point_store (store_in words.now) (entered store last_known_shingle reference_count location index_starts index_ends labels label_attributes label_count label_starts label_ends attributes attribute_count attribute_starts attribute_ends)) index) }
+    ensures { read result (count.new ∷ []) ≡ exported_reading (count.old ∷ []) (count_spec (point_store (store_in words.now) (held store.now last_known_shingle.now reference_count.now location.now index_starts.now index_ends.now labels.now label_attributes.now label_count.now label_starts.now label_ends.now attributes.now attribute_count.now attribute_starts.now attribute_ends.now)) index) }
 {
     let s = store_in(words);
     let index = PointIndex(index);
@@ -228,7 +228,7 @@ pub extern "C" fn ps_live_number(
     attribute_ends: &[u16],
     number: &mut u64,
 ) -> u64
-    ensures { read result (number.new ∷ []) ≡ exported_reading (number.old ∷ []) (live_number_spec (point_store (store_in words.now) (entered store last_known_shingle reference_count location index_starts index_ends labels label_attributes label_count label_starts label_ends attributes attribute_count attribute_starts attribute_ends))) }
+    ensures { read result (number.new ∷ []) ≡ exported_reading (number.old ∷ []) (live_number_spec (point_store (store_in words.now) (held store.now last_known_shingle.now reference_count.now location.now index_starts.now index_ends.now labels.now label_attributes.now label_count.now label_starts.now label_ends.now attributes.now attribute_count.now attribute_starts.now attribute_ends.now))) }
 {
     let s = store_in(words);
     let answer = store_counts::live_number(
@@ -272,7 +272,7 @@ pub extern "C" fn ps_free_start(
     attribute_ends: &[u16],
     number: &mut u64,
 ) -> u64
-    ensures { read result (number.new ∷ []) ≡ exported_reading (number.old ∷ []) (free_start_spec (point_store (store_in words.now) (entered store last_known_shingle reference_count location index_starts index_ends labels label_attributes label_count label_starts label_ends attributes attribute_count attribute_starts attribute_ends))) }
+    ensures { read result (number.new ∷ []) ≡ exported_reading (number.old ∷ []) (free_start_spec (point_store (store_in words.now) (held store.now last_known_shingle.now reference_count.now location.now index_starts.now index_ends.now labels.now label_attributes.now label_count.now label_starts.now label_ends.now attributes.now attribute_count.now attribute_starts.now attribute_ends.now))) }
 {
     let s = store_in(words);
     let answer = store_counts::free_start(

@@ -3,7 +3,7 @@ ghost use Rattle.std.specs.Prelude.{◌≡◌, ◌≤◌, [], ◌∷◌, length}
 ghost use Rattle.float_bits.specs.Words.{words_equal};
 ghost use Rattle.store_definitions.specs.Answers.{done_means};
 ghost use Rattle.hold_definitions.specs.Adding.{hold_add_spec};
-ghost use Rattle.hold_definitions.specs.Lent.{hold_entered, hold_left};
+ghost use Rattle.hold_definitions.specs.Lent.{hold_held};
 ghost use Rattle.hold_definitions.specs.Memory.{point_hold};
 ghost use Rattle.hold_definitions.specs.Readings.{held_spec, held_number_spec};
 ghost use Rattle.point_store_c.specs.ExportedStore.{returned, shape_in, read, exported_reading, written, exported_output};
@@ -78,7 +78,7 @@ pub extern "C" fn ps_hold_open(
     store_labels: usize,
     width: usize,
 ) -> u64
-    ensures { hold_exported result words.new [] (hold_left store last_known_shingle reference_count location index_starts index_ends labels label_attributes label_count label_starts label_ends attributes attribute_count attribute_starts attribute_ends held_indices held_labels) ≡ hold_exported_opening words.old (shape_in dimensions shingle_size capacity initial_capacity internal_shingling internal_rotation store_labels) width class_text.now (hold_entered store last_known_shingle reference_count location index_starts index_ends labels label_attributes label_count label_starts label_ends attributes attribute_count attribute_starts attribute_ends held_indices held_labels) }
+    ensures { hold_exported result words.new [] (hold_held store.new last_known_shingle.new reference_count.new location.new index_starts.new index_ends.new labels.new label_attributes.new label_count.new label_starts.new label_ends.new attributes.new attribute_count.new attribute_starts.new attribute_ends.new held_indices.now held_labels.now) ≡ hold_exported_opening words.old (shape_in dimensions shingle_size capacity initial_capacity internal_shingling internal_rotation store_labels) width class_text.now (hold_held store.old last_known_shingle.old reference_count.old location.old index_starts.old index_ends.old labels.old label_attributes.old label_count.old label_starts.old label_ends.old attributes.old attribute_count.old attribute_starts.old attribute_ends.old held_indices.now held_labels.now) }
 {
     let shape = shape_in(
         dimensions,
@@ -146,7 +146,7 @@ pub extern "C" fn ps_hold_add(
     place: &mut u64,
     free_indices: &mut u64,
 ) -> u64
-    ensures { hold_exported result words.new (kept.new ∷ index.new ∷ label_index.new ∷ joined.new ∷ place.new ∷ free_indices.new ∷ []) (hold_left store last_known_shingle reference_count location index_starts index_ends labels label_attributes label_count label_starts label_ends attributes attribute_count attribute_starts attribute_ends held_indices held_labels) ≡ hold_exported_call words.old (kept.old ∷ index.old ∷ label_index.old ∷ joined.old ∷ place.old ∷ free_indices.old ∷ []) (hold_add_spec words_equal 0 (point_hold (hold_in words.old) (hold_entered store last_known_shingle reference_count location index_starts index_ends labels label_attributes label_count label_starts label_ends attributes attribute_count attribute_starts attribute_ends held_indices held_labels)) point.now label) }
+    ensures { hold_exported result words.new (kept.new ∷ index.new ∷ label_index.new ∷ joined.new ∷ place.new ∷ free_indices.new ∷ []) (hold_held store.new last_known_shingle.new reference_count.new location.new index_starts.new index_ends.new labels.new label_attributes.new label_count.new label_starts.new label_ends.new attributes.new attribute_count.new attribute_starts.new attribute_ends.new held_indices.new held_labels.new) ≡ hold_exported_call words.old (kept.old ∷ index.old ∷ label_index.old ∷ joined.old ∷ place.old ∷ free_indices.old ∷ []) (hold_add_spec words_equal 0 (point_hold (hold_in words.old) (hold_held store.old last_known_shingle.old reference_count.old location.old index_starts.old index_ends.old labels.old label_attributes.old label_count.old label_starts.old label_ends.old attributes.old attribute_count.old attribute_starts.old attribute_ends.old held_indices.old held_labels.old)) point.now label) }
 {
     let h = hold_in(words);
     let result = hold::add(
@@ -208,7 +208,7 @@ pub extern "C" fn ps_hold_held(
     held_labels: &[u16],
     out: &mut [u16],
 ) -> u64
-    ensures { written result out.new ≡ exported_output (held_spec (point_hold (hold_in words.now) (hold_entered store last_known_shingle reference_count location index_starts index_ends labels label_attributes label_count label_starts label_ends attributes attribute_count attribute_starts attribute_ends held_indices held_labels)) out.old) }
+    ensures { written result out.new ≡ exported_output (held_spec (point_hold (hold_in words.now) (hold_held store.now last_known_shingle.now reference_count.now location.now index_starts.now index_ends.now labels.now label_attributes.now label_count.now label_starts.now label_ends.now attributes.now attribute_count.now attribute_starts.now attribute_ends.now held_indices.now held_labels.now)) out.old) }
 {
     let h = hold_in(words);
     let answer = hold_check::held(
@@ -258,7 +258,7 @@ pub extern "C" fn ps_hold_number(
     held_labels: &[u16],
     number: &mut u64,
 ) -> u64
-    ensures { read result (number.new ∷ []) ≡ exported_reading (number.old ∷ []) (held_number_spec (point_hold (hold_in words.now) (hold_entered store last_known_shingle reference_count location index_starts index_ends labels label_attributes label_count label_starts label_ends attributes attribute_count attribute_starts attribute_ends held_indices held_labels))) }
+    ensures { read result (number.new ∷ []) ≡ exported_reading (number.old ∷ []) (held_number_spec (point_hold (hold_in words.now) (hold_held store.now last_known_shingle.now reference_count.now location.now index_starts.now index_ends.now labels.now label_attributes.now label_count.now label_starts.now label_ends.now attributes.now attribute_count.now attribute_starts.now attribute_ends.now held_indices.now held_labels.now))) }
 {
     let h = hold_in(words);
     let answer = hold_check::held_number(

@@ -1,7 +1,7 @@
 // The store's readings of a label.
 ghost use Rattle.std.specs.Prelude.{◌≡◌, [], ◌∷◌};
 ghost use Rattle.store_definitions.specs.LabelReadings.{label_spec, attribute_spec, attribute_vec_spec};
-ghost use Rattle.store_definitions.specs.Lent.{entered};
+ghost use Rattle.store_definitions.specs.Lent.{held};
 ghost use Rattle.store_definitions.specs.Memory.{point_store};
 ghost use Rattle.point_store_c.specs.ExportedStore.{read, exported_reading, written, exported_output};
 ghost use Rattle.point_store_c.specs.Records.{store_in};
@@ -31,7 +31,7 @@ pub extern "C" fn ps_label(
     label: usize,
     code: &mut u64,
 ) -> u64
-    ensures { read result (code.new ∷ []) ≡ exported_reading (code.old ∷ []) (label_spec (point_store (store_in words.now) (entered store last_known_shingle reference_count location index_starts index_ends labels label_attributes label_count label_starts label_ends attributes attribute_count attribute_starts attribute_ends)) label) }
+    ensures { read result (code.new ∷ []) ≡ exported_reading (code.old ∷ []) (label_spec (point_store (store_in words.now) (held store.now last_known_shingle.now reference_count.now location.now index_starts.now index_ends.now labels.now label_attributes.now label_count.now label_starts.now label_ends.now attributes.now attribute_count.now attribute_starts.now attribute_ends.now)) label) }
 {
     let s = store_in(words);
     let label = LabelIndex(label);
@@ -78,7 +78,7 @@ pub extern "C" fn ps_attribute(
     label: usize,
     class: &mut u64,
 ) -> u64
-    ensures { read result (class.new ∷ []) ≡ exported_reading (class.old ∷ []) (attribute_spec (point_store (store_in words.now) (entered store last_known_shingle reference_count location index_starts index_ends labels label_attributes label_count label_starts label_ends attributes attribute_count attribute_starts attribute_ends)) label) }
+    ensures { read result (class.new ∷ []) ≡ exported_reading (class.old ∷ []) (attribute_spec (point_store (store_in words.now) (held store.now last_known_shingle.now reference_count.now location.now index_starts.now index_ends.now labels.now label_attributes.now label_count.now label_starts.now label_ends.now attributes.now attribute_count.now attribute_starts.now attribute_ends.now)) label) }
 {
     let s = store_in(words);
     let label = LabelIndex(label);
@@ -125,7 +125,7 @@ pub extern "C" fn ps_attribute_vec(
     label: usize,
     out: &mut [f32],
 ) -> u64
-    ensures { written result out.new ≡ exported_output (attribute_vec_spec (point_store (store_in words.now) (entered store last_known_shingle reference_count location index_starts index_ends labels label_attributes label_count label_starts label_ends attributes attribute_count attribute_starts attribute_ends)) label out.old) }
+    ensures { written result out.new ≡ exported_output (attribute_vec_spec (point_store (store_in words.now) (held store.now last_known_shingle.now reference_count.now location.now index_starts.now index_ends.now labels.now label_attributes.now label_count.now label_starts.now label_ends.now attributes.now attribute_count.now attribute_starts.now attribute_ends.now)) label out.old) }
 {
     let s = store_in(words);
     let label = LabelIndex(label);

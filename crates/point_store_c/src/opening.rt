@@ -1,7 +1,7 @@
 // Opening a store.
 ghost use Rattle.std.specs.Prelude.{◌≡◌, ◌≤◌, [], length};
 ghost use Rattle.store_definitions.specs.Answers.{done_means};
-ghost use Rattle.store_definitions.specs.Lent.{entered, left};
+ghost use Rattle.store_definitions.specs.Lent.{held};
 ghost use Rattle.point_store_c.specs.ExportedStore.{returned, opened_words, exported, shape_in, short_record, exported_opening};
 
 use crate::record::{RECORD_WORDS, record_write};
@@ -97,7 +97,7 @@ pub extern "C" fn ps_open(
     internal_rotation: usize,
     store_labels: usize,
 ) -> u64
-    ensures { exported result words.new [] (left store last_known_shingle reference_count location index_starts index_ends labels label_attributes label_count label_starts label_ends attributes attribute_count attribute_starts attribute_ends) ≡ exported_opening words.old (shape_in dimensions shingle_size capacity initial_capacity internal_shingling internal_rotation store_labels) class_text.now (entered store last_known_shingle reference_count location index_starts index_ends labels label_attributes label_count label_starts label_ends attributes attribute_count attribute_starts attribute_ends) }
+    ensures { exported result words.new [] (held store.new last_known_shingle.new reference_count.new location.new index_starts.new index_ends.new labels.new label_attributes.new label_count.new label_starts.new label_ends.new attributes.new attribute_count.new attribute_starts.new attribute_ends.new) ≡ exported_opening words.old (shape_in dimensions shingle_size capacity initial_capacity internal_shingling internal_rotation store_labels) class_text.now (held store.old last_known_shingle.old reference_count.old location.old index_starts.old index_ends.old labels.old label_attributes.old label_count.old label_starts.old label_ends.old attributes.old attribute_count.old attribute_starts.old attribute_ends.old) }
 {
     let shape = shape_in(
         dimensions,

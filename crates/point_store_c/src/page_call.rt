@@ -1,7 +1,7 @@
 // The page, exported: its text goes to a lent slice, its length to a lent number.
 ghost use Rattle.std.specs.Prelude.{[], ◌∷◌, ◌≡◌};
 ghost use Rattle.page.specs.Page.{page_spec};
-ghost use Rattle.store_definitions.specs.Lent.{entered};
+ghost use Rattle.store_definitions.specs.Lent.{held};
 ghost use Rattle.store_definitions.specs.Memory.{point_store};
 ghost use Rattle.point_store_c.specs.ExportedPage.{paged, exported_page};
 ghost use Rattle.point_store_c.specs.Records.{store_in};
@@ -30,7 +30,7 @@ pub extern "C" fn ps_page(
     text: &mut [u8],
     page_length: &mut u64,
 ) -> u64
-    ensures { paged result (page_length.new ∷ []) text.new ≡ exported_page (page_length.old ∷ []) (page_spec (point_store (store_in words.now) (entered store last_known_shingle reference_count location index_starts index_ends labels label_attributes label_count label_starts label_ends attributes attribute_count attribute_starts attribute_ends)) text.old) }
+    ensures { paged result (page_length.new ∷ []) text.new ≡ exported_page (page_length.old ∷ []) (page_spec (point_store (store_in words.now) (held store.now last_known_shingle.now reference_count.now location.now index_starts.now index_ends.now labels.now label_attributes.now label_count.now label_starts.now label_ends.now attributes.now attribute_count.now attribute_starts.now attribute_ends.now)) text.old) }
 {
     let s = store_in(words);
     let answer = page::page(

@@ -3,7 +3,7 @@
 ghost use Rattle.std.specs.Prelude.{◌≡◌, ◌≤◌, [], ◌∷◌, length};
 ghost use Rattle.float_bits.specs.Words.{words_equal};
 ghost use Rattle.store_definitions.specs.Answers.{done_means};
-ghost use Rattle.store_definitions.specs.Lent.{entered, left};
+ghost use Rattle.store_definitions.specs.Lent.{held};
 ghost use Rattle.probes_definitions.specs.Memory.{point_probes};
 ghost use Rattle.probes_definitions.specs.Setting.{set_kinds_spec};
 ghost use Rattle.probes_definitions.specs.Tallies.{tallies_spec};
@@ -81,7 +81,7 @@ pub extern "C" fn ps_probes_open(
     internal_rotation: usize,
     store_labels: usize,
 ) -> u64
-    ensures { exported result words.new [] (left store last_known_shingle reference_count location index_starts index_ends labels label_attributes label_count label_starts label_ends attributes attribute_count attribute_starts attribute_ends) ≡ probes_exported_opening words.old (shape_in dimensions shingle_size capacity initial_capacity internal_shingling internal_rotation store_labels) class_text.now (entered store last_known_shingle reference_count location index_starts index_ends labels label_attributes label_count label_starts label_ends attributes attribute_count attribute_starts attribute_ends) }
+    ensures { exported result words.new [] (held store.new last_known_shingle.new reference_count.new location.new index_starts.new index_ends.new labels.new label_attributes.new label_count.new label_starts.new label_ends.new attributes.new attribute_count.new attribute_starts.new attribute_ends.new) ≡ probes_exported_opening words.old (shape_in dimensions shingle_size capacity initial_capacity internal_shingling internal_rotation store_labels) class_text.now (held store.old last_known_shingle.old reference_count.old location.old index_starts.old index_ends.old labels.old label_attributes.old label_count.old label_starts.old label_ends.old attributes.old attribute_count.old attribute_starts.old attribute_ends.old) }
 {
     let shape = shape_in(
         dimensions,
@@ -146,7 +146,7 @@ pub extern "C" fn ps_probes_set(
     place: &mut u64,
     free_indices: &mut u64,
 ) -> u64
-    ensures { exported result words.new (kept.new ∷ index.new ∷ label_index.new ∷ joined.new ∷ place.new ∷ free_indices.new ∷ []) (left store last_known_shingle reference_count location index_starts index_ends labels label_attributes label_count label_starts label_ends attributes attribute_count attribute_starts attribute_ends) ≡ probes_exported_call words.old (kept.old ∷ index.old ∷ label_index.old ∷ joined.old ∷ place.old ∷ free_indices.old ∷ []) (set_kinds_spec words_equal 0 (point_probes (probes_in words.old) (entered store last_known_shingle reference_count location index_starts index_ends labels label_attributes label_count label_starts label_ends attributes attribute_count attribute_starts attribute_ends)) kinds.now floats.now label) }
+    ensures { exported result words.new (kept.new ∷ index.new ∷ label_index.new ∷ joined.new ∷ place.new ∷ free_indices.new ∷ []) (held store.new last_known_shingle.new reference_count.new location.new index_starts.new index_ends.new labels.new label_attributes.new label_count.new label_starts.new label_ends.now attributes.new attribute_count.new attribute_starts.new attribute_ends.now) ≡ probes_exported_call words.old (kept.old ∷ index.old ∷ label_index.old ∷ joined.old ∷ place.old ∷ free_indices.old ∷ []) (set_kinds_spec words_equal 0 (point_probes (probes_in words.old) (held store.old last_known_shingle.old reference_count.old location.old index_starts.old index_ends.old labels.old label_attributes.old label_count.old label_starts.old label_ends.now attributes.old attribute_count.old attribute_starts.old attribute_ends.now)) kinds.now floats.now label) }
 {
     let p = probes_in(words);
     let result = probes::set_words(
@@ -205,7 +205,7 @@ pub extern "C" fn ps_probes_tallies(
     attribute_ends: &[u16],
     out: &mut [u32],
 ) -> u64
-    ensures { written result out.new ≡ exported_output (tallies_spec (point_probes (probes_in words.now) (entered store last_known_shingle reference_count location index_starts index_ends labels label_attributes label_count label_starts label_ends attributes attribute_count attribute_starts attribute_ends)) out.old) }
+    ensures { written result out.new ≡ exported_output (tallies_spec (point_probes (probes_in words.now) (held store.now last_known_shingle.now reference_count.now location.now index_starts.now index_ends.now labels.now label_attributes.now label_count.now label_starts.now label_ends.now attributes.now attribute_count.now attribute_starts.now attribute_ends.now)) out.old) }
 {
     let p = probes_in(words);
     let answer = probes_check::tallies(

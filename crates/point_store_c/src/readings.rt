@@ -3,7 +3,7 @@ ghost use Rattle.std.specs.Prelude.{◌≡◌, [], ◌∷◌};
 ghost use Rattle.float_bits.specs.Rows.{add_scaled};
 ghost use Rattle.float_bits.specs.Words.{float_of, plus_zero, words_equal};
 ghost use Rattle.store_definitions.specs.IndexLists.{missing_indices_spec, next_indices_spec};
-ghost use Rattle.store_definitions.specs.Lent.{entered};
+ghost use Rattle.store_definitions.specs.Lent.{held};
 ghost use Rattle.store_definitions.specs.Memory.{point_store};
 ghost use Rattle.store_definitions.specs.Preview.{shingled_point_spec};
 ghost use Rattle.store_definitions.specs.Sums.{is_equal_spec, point_sum_spec};
@@ -39,7 +39,7 @@ pub extern "C" fn ps_is_equal(
     point: &[u32],
     equal: &mut u64,
 ) -> u64
-    ensures { read result (equal.new ∷ []) ≡ exported_reading (equal.old ∷ []) (is_equal_spec words_equal (point_store (store_in words.now) (entered store last_known_shingle reference_count location index_starts index_ends labels label_attributes label_count label_starts label_ends attributes attribute_count attribute_starts attribute_ends)) index point.now) }
+    ensures { read result (equal.new ∷ []) ≡ exported_reading (equal.old ∷ []) (is_equal_spec words_equal (point_store (store_in words.now) (held store.now last_known_shingle.now reference_count.now location.now index_starts.now index_ends.now labels.now label_attributes.now label_count.now label_starts.now label_ends.now attributes.now attribute_count.now attribute_starts.now attribute_ends.now)) index point.now) }
 {
     let s = store_in(words);
     let index = PointIndex(index);
@@ -88,7 +88,7 @@ pub extern "C" fn ps_point_sum(
     items: &[Item],
     out: &mut [f32],
 ) -> u64
-    ensures { written result out.new ≡ exported_output (point_sum_spec add_scaled (float_of plus_zero) (point_store (store_in words.now) (entered store last_known_shingle reference_count location index_starts index_ends labels label_attributes label_count label_starts label_ends attributes attribute_count attribute_starts attribute_ends)) (weightings_of items.now) out.old) }
+    ensures { written result out.new ≡ exported_output (point_sum_spec add_scaled (float_of plus_zero) (point_store (store_in words.now) (held store.now last_known_shingle.now reference_count.now location.now index_starts.now index_ends.now labels.now label_attributes.now label_count.now label_starts.now label_ends.now attributes.now attribute_count.now attribute_starts.now attribute_ends.now)) (weightings_of items.now) out.old) }
 {
     let s = store_in(words);
     let answer = store_sum_items::point_sum(
@@ -135,7 +135,7 @@ pub extern "C" fn ps_shingled_point(
     point: &[u32],
     out: &mut [u32],
 ) -> u64
-    ensures { written result out.new ≡ exported_output (shingled_point_spec (point_store (store_in words.now) (entered store last_known_shingle reference_count location index_starts index_ends labels label_attributes label_count label_starts label_ends attributes attribute_count attribute_starts attribute_ends)) point.now out.old) }
+    ensures { written result out.new ≡ exported_output (shingled_point_spec (point_store (store_in words.now) (held store.now last_known_shingle.now reference_count.now location.now index_starts.now index_ends.now labels.now label_attributes.now label_count.now label_starts.now label_ends.now attributes.now attribute_count.now attribute_starts.now attribute_ends.now)) point.now out.old) }
 {
     let s = store_in(words);
     let answer = store_readings::shingled_point(
@@ -183,7 +183,7 @@ pub extern "C" fn ps_missing_indices(
     values: &[usize],
     out: &mut [usize],
 ) -> u64
-    ensures { written result out.new ≡ exported_output (missing_indices_spec (point_store (store_in words.now) (entered store last_known_shingle reference_count location index_starts index_ends labels label_attributes label_count label_starts label_ends attributes attribute_count attribute_starts attribute_ends)) look_ahead values.now out.old) }
+    ensures { written result out.new ≡ exported_output (missing_indices_spec (point_store (store_in words.now) (held store.now last_known_shingle.now reference_count.now location.now index_starts.now index_ends.now labels.now label_attributes.now label_count.now label_starts.now label_ends.now attributes.now attribute_count.now attribute_starts.now attribute_ends.now)) look_ahead values.now out.old) }
 {
     let s = store_in(words);
     let answer = store_readings::missing_indices(
@@ -231,7 +231,7 @@ pub extern "C" fn ps_next_indices(
     look_ahead: usize,
     out: &mut [usize],
 ) -> u64
-    ensures { written result out.new ≡ exported_output (next_indices_spec (point_store (store_in words.now) (entered store last_known_shingle reference_count location index_starts index_ends labels label_attributes label_count label_starts label_ends attributes attribute_count attribute_starts attribute_ends)) look_ahead out.old) }
+    ensures { written result out.new ≡ exported_output (next_indices_spec (point_store (store_in words.now) (held store.now last_known_shingle.now reference_count.now location.now index_starts.now index_ends.now labels.now label_attributes.now label_count.now label_starts.now label_ends.now attributes.now attribute_count.now attribute_starts.now attribute_ends.now)) look_ahead out.old) }
 {
     let s = store_in(words);
     let answer = store_readings::next_indices(

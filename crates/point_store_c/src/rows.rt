@@ -2,7 +2,7 @@
 ghost use Rattle.std.specs.Prelude.{◌≡◌, [], ◌∷◌};
 ghost use Rattle.float_bits.specs.Words.{words_equal};
 ghost use Rattle.store_definitions.specs.Adding.{add_spec};
-ghost use Rattle.store_definitions.specs.Lent.{entered, left};
+ghost use Rattle.store_definitions.specs.Lent.{held};
 ghost use Rattle.store_definitions.specs.Memory.{point_store};
 ghost use Rattle.store_definitions.specs.Rows.{compact_spec, copy_spec};
 ghost use Rattle.point_store_c.specs.ExportedStore.{exported, exported_call, written, exported_output};
@@ -39,7 +39,7 @@ pub extern "C" fn ps_add(
     place: &mut u64,
     free_indices: &mut u64,
 ) -> u64
-    ensures { exported result words.new (kept.new ∷ index.new ∷ label_index.new ∷ joined.new ∷ place.new ∷ free_indices.new ∷ []) (left store last_known_shingle reference_count location index_starts index_ends labels label_attributes label_count label_starts label_ends attributes attribute_count attribute_starts attribute_ends) ≡ exported_call words.old (kept.old ∷ index.old ∷ label_index.old ∷ joined.old ∷ place.old ∷ free_indices.old ∷ []) (add_spec words_equal 0 (point_store (store_in words.old) (entered store last_known_shingle reference_count location index_starts index_ends labels label_attributes label_count label_starts label_ends attributes attribute_count attribute_starts attribute_ends)) point.now label) }
+    ensures { exported result words.new (kept.new ∷ index.new ∷ label_index.new ∷ joined.new ∷ place.new ∷ free_indices.new ∷ []) (held store.new last_known_shingle.new reference_count.new location.new index_starts.new index_ends.new labels.new label_attributes.new label_count.new label_starts.new label_ends.now attributes.new attribute_count.new attribute_starts.new attribute_ends.now) ≡ exported_call words.old (kept.old ∷ index.old ∷ label_index.old ∷ joined.old ∷ place.old ∷ free_indices.old ∷ []) (add_spec words_equal 0 (point_store (store_in words.old) (held store.old last_known_shingle.old reference_count.old location.old index_starts.old index_ends.old labels.old label_attributes.old label_count.old label_starts.old label_ends.now attributes.old attribute_count.old attribute_starts.old attribute_ends.now)) point.now label) }
 {
     let s = store_in(words);
     let result = store_add::add(
@@ -95,7 +95,7 @@ pub extern "C" fn ps_compact(
     attribute_starts: &[u16],
     attribute_ends: &[u16],
 ) -> u64
-    ensures { exported result words.new [] (left store last_known_shingle reference_count location index_starts index_ends labels label_attributes label_count label_starts label_ends attributes attribute_count attribute_starts attribute_ends) ≡ exported_call words.old [] (compact_spec 0 (point_store (store_in words.old) (entered store last_known_shingle reference_count location index_starts index_ends labels label_attributes label_count label_starts label_ends attributes attribute_count attribute_starts attribute_ends))) }
+    ensures { exported result words.new [] (held store.new last_known_shingle.now reference_count.now location.new index_starts.now index_ends.now labels.now label_attributes.now label_count.now label_starts.now label_ends.now attributes.now attribute_count.now attribute_starts.now attribute_ends.now) ≡ exported_call words.old [] (compact_spec 0 (point_store (store_in words.old) (held store.old last_known_shingle.now reference_count.now location.old index_starts.now index_ends.now labels.now label_attributes.now label_count.now label_starts.now label_ends.now attributes.now attribute_count.now attribute_starts.now attribute_ends.now))) }
 {
     let s = store_in(words);
     let result = store_rows::compact(
@@ -143,7 +143,7 @@ pub extern "C" fn ps_copy(
     index: usize,
     out: &mut [u32],
 ) -> u64
-    ensures { written result out.new ≡ exported_output (copy_spec (point_store (store_in words.now) (entered store last_known_shingle reference_count location index_starts index_ends labels label_attributes label_count label_starts label_ends attributes attribute_count attribute_starts attribute_ends)) index out.old) }
+    ensures { written result out.new ≡ exported_output (copy_spec (point_store (store_in words.now) (held store.now last_known_shingle.now reference_count.now location.now index_starts.now index_ends.now labels.now label_attributes.now label_count.now label_starts.now label_ends.now attributes.now attribute_count.now attribute_starts.now attribute_ends.now)) index out.old) }
 {
     let s = store_in(words);
     let index = PointIndex(index);

@@ -12,7 +12,7 @@ ghost use Rattle.probes_definitions.specs.WellFormed.{probes_well_formed};
 ghost use Rattle.store_check.specs.Figures.{FiguresOf};
 ghost use Rattle.store_definitions.specs.Adding.{add_spec};
 ghost use Rattle.store_definitions.specs.Answers.{added_means};
-ghost use Rattle.store_definitions.specs.Lent.{entered, held, left};
+ghost use Rattle.store_definitions.specs.Lent.{held};
 ghost use Rattle.store_definitions.specs.Memory.{point_store};
 
 use interval_store_manager::Decision;
@@ -47,8 +47,8 @@ fn set_filled(
     label: usize,
     figures: Figures,
 ) -> ProbesSetResult
-    requires { (probes_well_formed (point_probes p (held store last_known_shingle reference_count location index_starts index_ends labels label_attributes label_count label_starts label_ends attributes attribute_count attribute_starts attribute_ends)) ≡ true) × ((length kinds.now ≡ 8) × ((length words.now ≡ 8) × FiguresOf figures (point_store p.store (held store last_known_shingle reference_count location index_starts index_ends labels label_attributes label_count label_starts label_ends attributes attribute_count attribute_starts attribute_ends)))) }
-    ensures { probes_outcome (added_means result.answer) (point_probes result.probes (left store last_known_shingle reference_count location index_starts index_ends labels label_attributes label_count label_starts label_ends attributes attribute_count attribute_starts attribute_ends)) ≡ set_added (point_probes p (entered store last_known_shingle reference_count location index_starts index_ends labels label_attributes label_count label_starts label_ends attributes attribute_count attribute_starts attribute_ends)) (of_kinds kinds.now words.now) (add_spec words_equal 0 (point_store p.store (entered store last_known_shingle reference_count location index_starts index_ends labels label_attributes label_count label_starts label_ends attributes attribute_count attribute_starts attribute_ends)) (filled (of_kinds kinds.now words.now) (last_floats (point_store p.store (entered store last_known_shingle reference_count location index_starts index_ends labels label_attributes label_count label_starts label_ends attributes attribute_count attribute_starts attribute_ends)))) label) }
+    requires { (probes_well_formed (point_probes p (held store.old last_known_shingle.old reference_count.old location.old index_starts.old index_ends.old labels.old label_attributes.old label_count.old label_starts.old label_ends.now attributes.old attribute_count.old attribute_starts.old attribute_ends.now)) ≡ true) × ((length kinds.now ≡ 8) × ((length words.now ≡ 8) × FiguresOf figures (point_store p.store (held store.old last_known_shingle.old reference_count.old location.old index_starts.old index_ends.old labels.old label_attributes.old label_count.old label_starts.old label_ends.now attributes.old attribute_count.old attribute_starts.old attribute_ends.now)))) }
+    ensures { probes_outcome (added_means result.answer) (point_probes result.probes (held store.new last_known_shingle.new reference_count.new location.new index_starts.new index_ends.new labels.new label_attributes.new label_count.new label_starts.new label_ends.now attributes.new attribute_count.new attribute_starts.new attribute_ends.now)) ≡ set_added (point_probes p (held store.old last_known_shingle.old reference_count.old location.old index_starts.old index_ends.old labels.old label_attributes.old label_count.old label_starts.old label_ends.now attributes.old attribute_count.old attribute_starts.old attribute_ends.now)) (of_kinds kinds.now words.now) (add_spec words_equal 0 (point_store p.store (held store.old last_known_shingle.old reference_count.old location.old index_starts.old index_ends.old labels.old label_attributes.old label_count.old label_starts.old label_ends.now attributes.old attribute_count.old attribute_starts.old attribute_ends.now)) (filled (of_kinds kinds.now words.now) (last_floats (point_store p.store (held store.old last_known_shingle.old reference_count.old location.old index_starts.old index_ends.old labels.old label_attributes.old label_count.old label_starts.old label_ends.now attributes.old attribute_count.old attribute_starts.old attribute_ends.now)))) label) }
 {
     let s = p.store;
     let filled = filled_words(s.dimensions, last_known_shingle, kinds, words);
@@ -104,7 +104,7 @@ pub fn set_words(
     words: &[FloatBits],
     label: usize,
 ) -> ProbesSetResult
-    ensures { probes_outcome (added_means result.answer) (point_probes result.probes (left store last_known_shingle reference_count location index_starts index_ends labels label_attributes label_count label_starts label_ends attributes attribute_count attribute_starts attribute_ends)) ≡ set_kinds_spec words_equal 0 (point_probes p (entered store last_known_shingle reference_count location index_starts index_ends labels label_attributes label_count label_starts label_ends attributes attribute_count attribute_starts attribute_ends)) kinds.now words.now label }
+    ensures { probes_outcome (added_means result.answer) (point_probes result.probes (held store.new last_known_shingle.new reference_count.new location.new index_starts.new index_ends.new labels.new label_attributes.new label_count.new label_starts.new label_ends.now attributes.new attribute_count.new attribute_starts.new attribute_ends.now)) ≡ set_kinds_spec words_equal 0 (point_probes p (held store.old last_known_shingle.old reference_count.old location.old index_starts.old index_ends.old labels.old label_attributes.old label_count.old label_starts.old label_ends.now attributes.old attribute_count.old attribute_starts.old attribute_ends.now)) kinds.now words.now label }
 {
     let checked = check_probes(
         p,
@@ -185,7 +185,7 @@ pub fn set(
     readings: [Reading; 8],
     label: usize,
 ) -> ProbesSetResult
-    ensures { probes_outcome (added_means result.answer) (point_probes result.probes (left store last_known_shingle reference_count location index_starts index_ends labels label_attributes label_count label_starts label_ends attributes attribute_count attribute_starts attribute_ends)) ≡ set_spec words_equal 0 (point_probes p (entered store last_known_shingle reference_count location index_starts index_ends labels label_attributes label_count label_starts label_ends attributes attribute_count attribute_starts attribute_ends)) (of_floats readings) label }
+    ensures { probes_outcome (added_means result.answer) (point_probes result.probes (held store.new last_known_shingle.new reference_count.new location.new index_starts.new index_ends.new labels.new label_attributes.new label_count.new label_starts.new label_ends.now attributes.new attribute_count.new attribute_starts.new attribute_ends.now)) ≡ set_spec words_equal 0 (point_probes p (held store.old last_known_shingle.old reference_count.old location.old index_starts.old index_ends.old labels.old label_attributes.old label_count.old label_starts.old label_ends.now attributes.old attribute_count.old attribute_starts.old attribute_ends.now)) (of_floats readings) label }
 {
     let kinds = kinds_of(readings);
     let words = words_of(readings);

@@ -3,7 +3,7 @@ ghost use Rattle.std.specs.Prelude.{true, ◌≡◌, ◌<◌, length};
 ghost use Rattle.probes_definitions.specs.Memory.{point_probes};
 ghost use Rattle.probes_definitions.specs.WellFormed.{eight_probes, tallies_within, probes_well_formed};
 ghost use Rattle.store_check.specs.Figures.{FiguresOf};
-ghost use Rattle.store_definitions.specs.Lent.{entered};
+ghost use Rattle.store_definitions.specs.Lent.{held};
 ghost use Rattle.store_definitions.specs.Memory.{point_store};
 
 use probes_definitions::Probes;
@@ -56,7 +56,7 @@ pub fn check_probes(
     attribute_starts: &[u16],
     attribute_ends: &[u16],
 ) -> ProbesChecked
-    ensures { (result.ok ≡ probes_well_formed (point_probes p (entered store last_known_shingle reference_count location index_starts index_ends labels label_attributes label_count label_starts label_ends attributes attribute_count attribute_starts attribute_ends))) × ((result.ok ≡ true → FiguresOf result.figures (point_store p.store (entered store last_known_shingle reference_count location index_starts index_ends labels label_attributes label_count label_starts label_ends attributes attribute_count attribute_starts attribute_ends)))) }
+    ensures { (result.ok ≡ probes_well_formed (point_probes p (held store.now last_known_shingle.now reference_count.now location.now index_starts.now index_ends.now labels.now label_attributes.now label_count.now label_starts.now label_ends.now attributes.now attribute_count.now attribute_starts.now attribute_ends.now))) × ((result.ok ≡ true → FiguresOf result.figures (point_store p.store (held store.now last_known_shingle.now reference_count.now location.now index_starts.now index_ends.now labels.now label_attributes.now label_count.now label_starts.now label_ends.now attributes.now attribute_count.now attribute_starts.now attribute_ends.now)))) }
 {
     let s = p.store;
     let checked = check(

@@ -3,7 +3,7 @@ ghost use Rattle.std.specs.Prelude.{◌≡◌, length};
 ghost use Rattle.probes_definitions.specs.Memory.{point_probes};
 ghost use Rattle.probes_definitions.specs.Tallies.{tallies_spec};
 ghost use Rattle.store_definitions.specs.Answers.{done_means, output};
-ghost use Rattle.store_definitions.specs.Lent.{entered};
+ghost use Rattle.store_definitions.specs.Lent.{held};
 
 use crate::check::check_probes;
 use probes_definitions::Probes;
@@ -41,7 +41,7 @@ pub fn tallies(
     attribute_ends: &[u16],
     out: &mut [u32],
 ) -> Done
-    ensures { output (done_means result) out.new ≡ tallies_spec (point_probes p (entered store last_known_shingle reference_count location index_starts index_ends labels label_attributes label_count label_starts label_ends attributes attribute_count attribute_starts attribute_ends)) out.old }
+    ensures { output (done_means result) out.new ≡ tallies_spec (point_probes p (held store.now last_known_shingle.now reference_count.now location.now index_starts.now index_ends.now labels.now label_attributes.now label_count.now label_starts.now label_ends.now attributes.now attribute_count.now attribute_starts.now attribute_ends.now)) out.old }
 {
     let checked = check_probes(
         p,

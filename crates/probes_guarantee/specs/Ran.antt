@@ -24,9 +24,9 @@ use Rattle.probes_guarantee.specs.Run.{ProbeSet}
 pub data ProbesOpened : Shape → List ℕ → Memory ℕ → PointProbes ℕ → Type 0 where
   -- probes_opening::open_probes
   opens : (shape : Shape) (store last_known_shingle reference_count location index_starts index_ends labels label_attributes label_count label_starts label_ends attributes attribute_count attribute_starts attribute_ends class_text : Slice) (r : ProbesDoneResult)
-      → probes_outcome (done_means r.answer) (point_probes r.probes (left store last_known_shingle reference_count location index_starts index_ends labels label_attributes label_count label_starts label_ends attributes attribute_count attribute_starts attribute_ends)) ≡ probes_open_spec 0 shape class_text.entry.now (entered store last_known_shingle reference_count location index_starts index_ends labels label_attributes label_count label_starts label_ends attributes attribute_count attribute_starts attribute_ends)
+      → probes_outcome (done_means r.answer) (point_probes r.probes (left store last_known_shingle reference_count location index_starts index_ends labels label_attributes label_count label_starts label_ends attributes attribute_count attribute_starts attribute_ends)) ≡ probes_open_spec 0 shape class_text.entry (entered store last_known_shingle reference_count location index_starts index_ends labels label_attributes label_count label_starts label_ends attributes attribute_count attribute_starts attribute_ends)
       → r.answer ≡ at_done.Done
-      → ProbesOpened shape class_text.entry.now (entered store last_known_shingle reference_count location index_starts index_ends labels label_attributes label_count label_starts label_ends attributes attribute_count attribute_starts attribute_ends) (point_probes r.probes (left store last_known_shingle reference_count location index_starts index_ends labels label_attributes label_count label_starts label_ends attributes attribute_count attribute_starts attribute_ends))
+      → ProbesOpened shape class_text.entry (entered store last_known_shingle reference_count location index_starts index_ends labels label_attributes label_count label_starts label_ends attributes attribute_count attribute_starts attribute_ends) (point_probes r.probes (left store last_known_shingle reference_count location index_starts index_ends labels label_attributes label_count label_starts label_ends attributes attribute_count attribute_starts attribute_ends))
 
 -- the sets taken by a product, their answers, and the product that they left
 pub data ProbesRan (start : PointProbes ℕ) : List (ProbeSet ℕ) → List Answer → PointProbes ℕ → Type 0 where
@@ -39,12 +39,12 @@ pub data ProbesRan (start : PointProbes ℕ) : List (ProbeSet ℕ) → List Answ
   -- probes::set_words
   sets_words : {before : List (ProbeSet ℕ)} {answers : List Answer} (p : Probes) (store last_known_shingle reference_count location index_starts index_ends labels label_attributes label_count label_starts label_ends attributes attribute_count attribute_starts attribute_ends : Slice) (kinds words : Slice) (label : ℕ) (r : ProbesSetResult)
       → ProbesRan start before answers (point_probes p (entered store last_known_shingle reference_count location index_starts index_ends labels label_attributes label_count label_starts label_ends attributes attribute_count attribute_starts attribute_ends))
-      → probes_outcome (added_means r.answer) (point_probes r.probes (left store last_known_shingle reference_count location index_starts index_ends labels label_attributes label_count label_starts label_ends attributes attribute_count attribute_starts attribute_ends)) ≡ set_kinds_spec words_equal 0 (point_probes p (entered store last_known_shingle reference_count location index_starts index_ends labels label_attributes label_count label_starts label_ends attributes attribute_count attribute_starts attribute_ends)) kinds.entry.now words.entry.now label
-      → kinds_decided kinds.entry.now words.entry.now ≡ go
-      → ProbesRan start (record { readings = of_kinds kinds.entry.now words.entry.now; code = label } ∷ before) (added_means r.answer ∷ answers) (point_probes r.probes (left store last_known_shingle reference_count location index_starts index_ends labels label_attributes label_count label_starts label_ends attributes attribute_count attribute_starts attribute_ends))
+      → probes_outcome (added_means r.answer) (point_probes r.probes (left store last_known_shingle reference_count location index_starts index_ends labels label_attributes label_count label_starts label_ends attributes attribute_count attribute_starts attribute_ends)) ≡ set_kinds_spec words_equal 0 (point_probes p (entered store last_known_shingle reference_count location index_starts index_ends labels label_attributes label_count label_starts label_ends attributes attribute_count attribute_starts attribute_ends)) kinds.entry words.entry label
+      → kinds_decided kinds.entry words.entry ≡ go
+      → ProbesRan start (record { readings = of_kinds kinds.entry words.entry; code = label } ∷ before) (added_means r.answer ∷ answers) (point_probes r.probes (left store last_known_shingle reference_count location index_starts index_ends labels label_attributes label_count label_starts label_ends attributes attribute_count attribute_starts attribute_ends))
   -- the same call with kinds or lengths that are no set's: it is refused
   no_set : {before : List (ProbeSet ℕ)} {answers : List Answer} (p : Probes) (store last_known_shingle reference_count location index_starts index_ends labels label_attributes label_count label_starts label_ends attributes attribute_count attribute_starts attribute_ends : Slice) (kinds words : Slice) (label : ℕ) (r : ProbesSetResult)
       → ProbesRan start before answers (point_probes p (entered store last_known_shingle reference_count location index_starts index_ends labels label_attributes label_count label_starts label_ends attributes attribute_count attribute_starts attribute_ends))
-      → probes_outcome (added_means r.answer) (point_probes r.probes (left store last_known_shingle reference_count location index_starts index_ends labels label_attributes label_count label_starts label_ends attributes attribute_count attribute_starts attribute_ends)) ≡ set_kinds_spec words_equal 0 (point_probes p (entered store last_known_shingle reference_count location index_starts index_ends labels label_attributes label_count label_starts label_ends attributes attribute_count attribute_starts attribute_ends)) kinds.entry.now words.entry.now label
-      → (n : ℕ) → kinds_decided kinds.entry.now words.entry.now ≡ refuse n
+      → probes_outcome (added_means r.answer) (point_probes r.probes (left store last_known_shingle reference_count location index_starts index_ends labels label_attributes label_count label_starts label_ends attributes attribute_count attribute_starts attribute_ends)) ≡ set_kinds_spec words_equal 0 (point_probes p (entered store last_known_shingle reference_count location index_starts index_ends labels label_attributes label_count label_starts label_ends attributes attribute_count attribute_starts attribute_ends)) kinds.entry words.entry label
+      → (n : ℕ) → kinds_decided kinds.entry words.entry ≡ refuse n
       → ProbesRan start before answers (point_probes r.probes (left store last_known_shingle reference_count location index_starts index_ends labels label_attributes label_count label_starts label_ends attributes attribute_count attribute_starts attribute_ends))

@@ -7,7 +7,7 @@ ghost use Rattle.probes_definitions.specs.Memory.{point_probes};
 ghost use Rattle.probes_definitions.specs.Opening.{no_probes, probes_open_spec};
 ghost use Rattle.probes_definitions.specs.WellFormed.{eight_probes};
 ghost use Rattle.store_definitions.specs.Answers.{done_means};
-ghost use Rattle.store_definitions.specs.Lent.{entered, left};
+ghost use Rattle.store_definitions.specs.Lent.{held};
 
 use probes_check::eight_probes;
 use probes_definitions::{Probes, ProbesDoneResult};
@@ -58,7 +58,7 @@ pub fn open_probes(
     attribute_ends: &mut [u16],
     class_text: &[u8],
 ) -> ProbesDoneResult
-    ensures { probes_outcome (done_means result.answer) (point_probes result.probes (left store last_known_shingle reference_count location index_starts index_ends labels label_attributes label_count label_starts label_ends attributes attribute_count attribute_starts attribute_ends)) ≡ probes_open_spec 0 shape class_text.now (entered store last_known_shingle reference_count location index_starts index_ends labels label_attributes label_count label_starts label_ends attributes attribute_count attribute_starts attribute_ends) }
+    ensures { probes_outcome (done_means result.answer) (point_probes result.probes (held store.new last_known_shingle.new reference_count.new location.new index_starts.new index_ends.new labels.new label_attributes.new label_count.new label_starts.new label_ends.new attributes.new attribute_count.new attribute_starts.new attribute_ends.new)) ≡ probes_open_spec 0 shape class_text.now (held store.old last_known_shingle.old reference_count.old location.old index_starts.old index_ends.old labels.old label_attributes.old label_count.old label_starts.old label_ends.old attributes.old attribute_count.old attribute_starts.old attribute_ends.old) }
 {
     if !for_eight_probes(
         shape.dimensions,

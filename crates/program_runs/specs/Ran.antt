@@ -2,7 +2,6 @@
 -- is one call of the code: its premise is the equation that the call's contract ensures, in the contract's own words, of the
 -- result and of the lent slices when the call began and when it ended. Calls stand with the last one first.
 use Rattle.std.specs.Prelude.{ℕ, List, [], ◌∷◌, ◌≡◌}
-use Rattle.std.specs.Borrow.{Bor}
 use denote.Triple.Both.{Both}
 use Rattle.terms.specs.declared.PointIndex.{PointIndex}
 use Rattle.terms.specs.declared.LabelIndex.{LabelIndex}
@@ -26,15 +25,15 @@ use Rattle.store_adjust_pairs.specs.Records.{pairings_of}
 use Rattle.guarantee.specs.Run.{Call, add, inc, dec, adjust, compact}
 
 abbrev pub SliceOf : Type 0 → Type 0
-SliceOf X = Both (Bor (List X)) (Bor (List X))
+SliceOf X = Both (List X) (List X)
 
 -- an opening that was accepted: of a shape with a text of classes over this memory, with the store that it gave
 pub data Opened : Shape → (text : List ℕ) → Memory ℕ → PointStore ℕ → Type 0 where
   -- store_rows::open
   opens : (shape : Shape) (store last_known_shingle reference_count location index_starts index_ends labels label_attributes label_count label_starts label_ends attributes attribute_count attribute_starts attribute_ends class_text : Slice) (r : DoneResult)
-      → outcome (done_means r.answer) (point_store r.store (left store last_known_shingle reference_count location index_starts index_ends labels label_attributes label_count label_starts label_ends attributes attribute_count attribute_starts attribute_ends)) ≡ open_spec 0 shape class_text.entry.now (entered store last_known_shingle reference_count location index_starts index_ends labels label_attributes label_count label_starts label_ends attributes attribute_count attribute_starts attribute_ends)
+      → outcome (done_means r.answer) (point_store r.store (left store last_known_shingle reference_count location index_starts index_ends labels label_attributes label_count label_starts label_ends attributes attribute_count attribute_starts attribute_ends)) ≡ open_spec 0 shape class_text.entry (entered store last_known_shingle reference_count location index_starts index_ends labels label_attributes label_count label_starts label_ends attributes attribute_count attribute_starts attribute_ends)
       → r.answer ≡ at_done.Done
-      → Opened shape class_text.entry.now (entered store last_known_shingle reference_count location index_starts index_ends labels label_attributes label_count label_starts label_ends attributes attribute_count attribute_starts attribute_ends) (point_store r.store (left store last_known_shingle reference_count location index_starts index_ends labels label_attributes label_count label_starts label_ends attributes attribute_count attribute_starts attribute_ends))
+      → Opened shape class_text.entry (entered store last_known_shingle reference_count location index_starts index_ends labels label_attributes label_count label_starts label_ends attributes attribute_count attribute_starts attribute_ends) (point_store r.store (left store last_known_shingle reference_count location index_starts index_ends labels label_attributes label_count label_starts label_ends attributes attribute_count attribute_starts attribute_ends))
 
 -- the calls made on a store, their answers, and the store that they left
 pub data Ran (start : PointStore ℕ) : List (Call ℕ) → List Answer → PointStore ℕ → Type 0 where
@@ -42,8 +41,8 @@ pub data Ran (start : PointStore ℕ) : List (Call ℕ) → List Answer → Poin
   -- store_add::add
   adds : {calls : List (Call ℕ)} {answers : List Answer} (s : Store) (store last_known_shingle reference_count location index_starts index_ends labels label_attributes label_count label_starts label_ends attributes attribute_count attribute_starts attribute_ends : Slice) (point : Slice) (label : ℕ) (r : AddResult)
       → Ran start calls answers (point_store s (entered store last_known_shingle reference_count location index_starts index_ends labels label_attributes label_count label_starts label_ends attributes attribute_count attribute_starts attribute_ends))
-      → outcome (added_means r.answer) (point_store r.store (left store last_known_shingle reference_count location index_starts index_ends labels label_attributes label_count label_starts label_ends attributes attribute_count attribute_starts attribute_ends)) ≡ add_spec words_equal 0 (point_store s (entered store last_known_shingle reference_count location index_starts index_ends labels label_attributes label_count label_starts label_ends attributes attribute_count attribute_starts attribute_ends)) point.entry.now label
-      → Ran start (add point.entry.now label ∷ calls) (added_means r.answer ∷ answers) (point_store r.store (left store last_known_shingle reference_count location index_starts index_ends labels label_attributes label_count label_starts label_ends attributes attribute_count attribute_starts attribute_ends))
+      → outcome (added_means r.answer) (point_store r.store (left store last_known_shingle reference_count location index_starts index_ends labels label_attributes label_count label_starts label_ends attributes attribute_count attribute_starts attribute_ends)) ≡ add_spec words_equal 0 (point_store s (entered store last_known_shingle reference_count location index_starts index_ends labels label_attributes label_count label_starts label_ends attributes attribute_count attribute_starts attribute_ends)) point.entry label
+      → Ran start (add point.entry label ∷ calls) (added_means r.answer ∷ answers) (point_store r.store (left store last_known_shingle reference_count location index_starts index_ends labels label_attributes label_count label_starts label_ends attributes attribute_count attribute_starts attribute_ends))
   -- store_counts::inc
   incs : {calls : List (Call ℕ)} {answers : List Answer} (s : Store) (store last_known_shingle reference_count location index_starts index_ends labels label_attributes label_count label_starts label_ends attributes attribute_count attribute_starts attribute_ends : Slice) (index : PointIndex) (label : LabelIndex) (r : DoneResult)
       → Ran start calls answers (point_store s (entered store last_known_shingle reference_count location index_starts index_ends labels label_attributes label_count label_starts label_ends attributes attribute_count attribute_starts attribute_ends))
@@ -57,13 +56,13 @@ pub data Ran (start : PointStore ℕ) : List (Call ℕ) → List Answer → Poin
   -- store_adjust::adjust_plain
   adjusts_plain : {calls : List (Call ℕ)} {answers : List Answer} (s : Store) (store last_known_shingle reference_count location index_starts index_ends labels label_attributes label_count label_starts label_ends attributes attribute_count attribute_starts attribute_ends : Slice) (pairs : SliceOf (List ℕ)) (r : AdjustResult)
       → Ran start calls answers (point_store s (entered store last_known_shingle reference_count location index_starts index_ends labels label_attributes label_count label_starts label_ends attributes attribute_count attribute_starts attribute_ends))
-      → outcome (adjusted_means r.answer) (point_store r.store (left store last_known_shingle reference_count location index_starts index_ends labels label_attributes label_count label_starts label_ends attributes attribute_count attribute_starts attribute_ends)) ≡ adjust_spec (point_store s (entered store last_known_shingle reference_count location index_starts index_ends labels label_attributes label_count label_starts label_ends attributes attribute_count attribute_starts attribute_ends)) (pairings pairs.entry.now)
-      → Ran start (adjust (pairings pairs.entry.now) ∷ calls) (adjusted_means r.answer ∷ answers) (point_store r.store (left store last_known_shingle reference_count location index_starts index_ends labels label_attributes label_count label_starts label_ends attributes attribute_count attribute_starts attribute_ends))
+      → outcome (adjusted_means r.answer) (point_store r.store (left store last_known_shingle reference_count location index_starts index_ends labels label_attributes label_count label_starts label_ends attributes attribute_count attribute_starts attribute_ends)) ≡ adjust_spec (point_store s (entered store last_known_shingle reference_count location index_starts index_ends labels label_attributes label_count label_starts label_ends attributes attribute_count attribute_starts attribute_ends)) (pairings pairs.entry)
+      → Ran start (adjust (pairings pairs.entry) ∷ calls) (adjusted_means r.answer ∷ answers) (point_store r.store (left store last_known_shingle reference_count location index_starts index_ends labels label_attributes label_count label_starts label_ends attributes attribute_count attribute_starts attribute_ends))
   -- store_adjust_pairs::adjust_count
   adjusts : {calls : List (Call ℕ)} {answers : List Answer} (s : Store) (store last_known_shingle reference_count location index_starts index_ends labels label_attributes label_count label_starts label_ends attributes attribute_count attribute_starts attribute_ends : Slice) (pairs : SliceOf Pair) (r : AdjustResult)
       → Ran start calls answers (point_store s (entered store last_known_shingle reference_count location index_starts index_ends labels label_attributes label_count label_starts label_ends attributes attribute_count attribute_starts attribute_ends))
-      → outcome (adjusted_means r.answer) (point_store r.store (left store last_known_shingle reference_count location index_starts index_ends labels label_attributes label_count label_starts label_ends attributes attribute_count attribute_starts attribute_ends)) ≡ adjust_spec (point_store s (entered store last_known_shingle reference_count location index_starts index_ends labels label_attributes label_count label_starts label_ends attributes attribute_count attribute_starts attribute_ends)) (pairings_of pairs.entry.now)
-      → Ran start (adjust (pairings_of pairs.entry.now) ∷ calls) (adjusted_means r.answer ∷ answers) (point_store r.store (left store last_known_shingle reference_count location index_starts index_ends labels label_attributes label_count label_starts label_ends attributes attribute_count attribute_starts attribute_ends))
+      → outcome (adjusted_means r.answer) (point_store r.store (left store last_known_shingle reference_count location index_starts index_ends labels label_attributes label_count label_starts label_ends attributes attribute_count attribute_starts attribute_ends)) ≡ adjust_spec (point_store s (entered store last_known_shingle reference_count location index_starts index_ends labels label_attributes label_count label_starts label_ends attributes attribute_count attribute_starts attribute_ends)) (pairings_of pairs.entry)
+      → Ran start (adjust (pairings_of pairs.entry) ∷ calls) (adjusted_means r.answer ∷ answers) (point_store r.store (left store last_known_shingle reference_count location index_starts index_ends labels label_attributes label_count label_starts label_ends attributes attribute_count attribute_starts attribute_ends))
   -- store_rows::compact
   compacts : {calls : List (Call ℕ)} {answers : List Answer} (s : Store) (store last_known_shingle reference_count location index_starts index_ends labels label_attributes label_count label_starts label_ends attributes attribute_count attribute_starts attribute_ends : Slice) (r : DoneResult)
       → Ran start calls answers (point_store s (entered store last_known_shingle reference_count location index_starts index_ends labels label_attributes label_count label_starts label_ends attributes attribute_count attribute_starts attribute_ends))

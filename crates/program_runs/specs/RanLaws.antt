@@ -42,11 +42,11 @@ call c {start} {calls} {answers} {a} {p} {q} ensures before =
 pub ran : {start : PointStore ℕ} {calls : List (Call ℕ)} {answers : List Answer} {q : PointStore ℕ} → Ran start calls answers q → IsRun start calls answers q
 unfolding after answers_to
 ran none_yet = record { store = refl; answers_same = refl }
-ran (adds s a b c d e f g h i j k l m n o point label r before ensures) = call (add point.entry.now label) ensures (ran before)
+ran (adds s a b c d e f g h i j k l m n o point label r before ensures) = call (add point.entry label) ensures (ran before)
 ran (incs s a b c d e f g h i j k l m n o index label r before ensures) = call (inc index.0 label.0) ensures (ran before)
 ran (decs s a b c d e f g h i j k l m n o index label r before ensures) = call (dec index.0 label.0) ensures (ran before)
-ran (adjusts_plain s a b c d e f g h i j k l m n o pairs r before ensures) = call (adjust (pairings pairs.entry.now)) ensures (ran before)
-ran (adjusts s a b c d e f g h i j k l m n o pairs r before ensures) = call (adjust (pairings_of pairs.entry.now)) ensures (ran before)
+ran (adjusts_plain s a b c d e f g h i j k l m n o pairs r before ensures) = call (adjust (pairings pairs.entry)) ensures (ran before)
+ran (adjusts s a b c d e f g h i j k l m n o pairs r before ensures) = call (adjust (pairings_of pairs.entry)) ensures (ran before)
 ran (compacts s a b c d e f g h i j k l m n o r before ensures) = call compact ensures (ran before)
 
 -- and so the list guarantee is one of the program: its store and its answers are those of the run that the guarantee speaks of

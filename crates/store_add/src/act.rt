@@ -5,7 +5,7 @@ ghost use Rattle.placement.specs.Laying.{place_of};
 ghost use Rattle.store_check.specs.Figures.{FiguresOf};
 ghost use Rattle.store_definitions.specs.Adding.{add_decided, add_carried_out};
 ghost use Rattle.store_definitions.specs.Answers.{added_means, outcome};
-ghost use Rattle.store_definitions.specs.Lent.{held, entered, left};
+ghost use Rattle.store_definitions.specs.Lent.{held};
 ghost use Rattle.store_definitions.specs.Memory.{point_store};
 ghost use Rattle.store_add.specs.Deciding.{decision_means};
 ghost use Rattle.store_add.specs.Answering.{changed};
@@ -51,8 +51,8 @@ pub fn act(
     label: usize,
     figures: Figures,
 ) -> AddChanges
-    requires { (decision_means d ≡ add_decided (point_store s (held store last_known_shingle reference_count location index_starts index_ends labels label_attributes label_count label_starts label_ends attributes attribute_count attribute_starts attribute_ends)) point.now label) × FiguresOf figures (point_store s (held store last_known_shingle reference_count location index_starts index_ends labels label_attributes label_count label_starts label_ends attributes attribute_count attribute_starts attribute_ends)) }
-    ensures { outcome (added_means result.answer) (point_store (changed s result) (left store last_known_shingle reference_count location index_starts index_ends labels label_attributes label_count label_starts label_ends attributes attribute_count attribute_starts attribute_ends)) ≡ add_carried_out words_equal 0 (decision_means d) (point_store s (entered store last_known_shingle reference_count location index_starts index_ends labels label_attributes label_count label_starts label_ends attributes attribute_count attribute_starts attribute_ends)) point.now label }
+    requires { (decision_means d ≡ add_decided (point_store s (held store.old last_known_shingle.old reference_count.old location.old index_starts.old index_ends.old labels.old label_attributes.old label_count.old label_starts.old label_ends.now attributes.old attribute_count.old attribute_starts.old attribute_ends.now)) point.now label) × FiguresOf figures (point_store s (held store.old last_known_shingle.old reference_count.old location.old index_starts.old index_ends.old labels.old label_attributes.old label_count.old label_starts.old label_ends.now attributes.old attribute_count.old attribute_starts.old attribute_ends.now)) }
+    ensures { outcome (added_means result.answer) (point_store (changed s result) (held store.new last_known_shingle.new reference_count.new location.new index_starts.new index_ends.new labels.new label_attributes.new label_count.new label_starts.new label_ends.now attributes.new attribute_count.new attribute_starts.new attribute_ends.now)) ≡ add_carried_out words_equal 0 (decision_means d) (point_store s (held store.old last_known_shingle.old reference_count.old location.old index_starts.old index_ends.old labels.old label_attributes.old label_count.old label_starts.old label_ends.now attributes.old attribute_count.old attribute_starts.old attribute_ends.now)) point.now label }
 {
     match d {
         AddDecision::Refuse(why) => unchanged(s, why),

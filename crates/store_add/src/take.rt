@@ -1,7 +1,7 @@
 // A kept add takes a label and an index.
 ghost use Rattle.std.specs.Prelude.{true, ◌≡◌, ◌≤◌};
 ghost use Rattle.labels.specs.Counted.{counted};
-ghost use Rattle.labels.specs.Forms.{held, entered, left, label_outcome};
+ghost use Rattle.labels.specs.Forms.{held, label_outcome};
 ghost use Rattle.store_add.specs.Pieces.{managers_of, label_for, grown_table, grown_places, index_given, index_placed, index_for};
 ghost use Rattle.store_add.specs.Requires.{Labelled, Growable, Takeable, IndexReady};
 
@@ -34,8 +34,8 @@ pub fn label_for(
     code: usize,
     free: LabelsFree,
 ) -> TakenLabel
-    requires { s.store_labels ≡ true → Labelled s (held (managers_of s) labels label_attributes label_count label_starts label_ends attributes attribute_count attribute_starts attribute_ends) code free }
-    ensures { label_outcome result.label (left result.managers labels label_attributes label_count label_starts label_ends attributes attribute_count attribute_starts attribute_ends) ≡ label_for s (entered (managers_of s) labels label_attributes label_count label_starts label_ends attributes attribute_count attribute_starts attribute_ends) code }
+    requires { s.store_labels ≡ true → Labelled s (held (managers_of s) labels.old label_attributes.old label_count.old label_starts.old label_ends.now attributes.old attribute_count.old attribute_starts.old attribute_ends.now) code free }
+    ensures { label_outcome result.label (held result.managers labels.new label_attributes.new label_count.new label_starts.new label_ends.now attributes.new attribute_count.new attribute_starts.new attribute_ends.now) ≡ label_for s (held (managers_of s) labels.old label_attributes.old label_count.old label_starts.old label_ends.now attributes.old attribute_count.old attribute_starts.old attribute_ends.now) code }
 {
     let label_manager = s.label_manager;
     let attribute_manager = s.attribute_manager;

@@ -5,11 +5,11 @@
 ghost use Rattle.std.specs.Prelude.{true, ◌≡◌};
 ghost use Rattle.store_definitions.specs.Answers.{outcome, adjusted_means};
 ghost use Rattle.store_definitions.specs.Counting.{adjust_spec};
-ghost use Rattle.store_definitions.specs.Lent.{entered, left};
+ghost use Rattle.store_definitions.specs.Lent.{held};
 ghost use Rattle.store_definitions.specs.Memory.{point_store};
 ghost use Rattle.store_definitions.specs.WellFormed.{well_formed};
-ghost use Rattle.store_check.specs.Tables.{tables, tables_at_entry};
-ghost use Rattle.store_counts.specs.Tables.{tables_at_exit};
+ghost use Rattle.store_check.specs.Tables.{tables};
+
 ghost use Rattle.store_adjust.specs.Pairs.{pairings};
 
 mod pair;
@@ -39,8 +39,8 @@ pub fn adjust_unchecked(
     attribute_ends: &mut [u16],
     pairs: &[[usize; 4]],
 ) -> AdjustResult
-    requires { well_formed (point_store s (tables floats window reference_count location index_starts index_ends labels label_attributes label_count label_starts label_ends attributes attribute_count attribute_starts attribute_ends)) ≡ true }
-    ensures { outcome (adjusted_means result.answer) (point_store result.store (tables_at_exit floats window reference_count location index_starts index_ends labels label_attributes label_count label_starts label_ends attributes attribute_count attribute_starts attribute_ends)) ≡ adjust_spec (point_store s (tables_at_entry floats window reference_count location index_starts index_ends labels label_attributes label_count label_starts label_ends attributes attribute_count attribute_starts attribute_ends)) (pairings pairs.now) }
+    requires { well_formed (point_store s (tables floats window reference_count.old location.old index_starts.old index_ends.old labels.now label_attributes.now label_count.old label_starts.old label_ends.old attributes.now attribute_count.old attribute_starts.old attribute_ends.old)) ≡ true }
+    ensures { outcome (adjusted_means result.answer) (point_store result.store (tables floats window reference_count.new location.new index_starts.new index_ends.new labels.now label_attributes.now label_count.new label_starts.new label_ends.new attributes.now attribute_count.new attribute_starts.new attribute_ends.new)) ≡ adjust_spec (point_store s (tables floats window reference_count.old location.old index_starts.old index_ends.old labels.now label_attributes.now label_count.old label_starts.old label_ends.old attributes.now attribute_count.old attribute_starts.old attribute_ends.old)) (pairings pairs.now) }
 {
     let mut after = s;
     let mut i = 0;
@@ -103,7 +103,7 @@ pub fn adjust_plain(
     attribute_ends: &mut [u16],
     pairs: &[[usize; 4]],
 ) -> AdjustResult
-    ensures { outcome (adjusted_means result.answer) (point_store result.store (left store last_known_shingle reference_count location index_starts index_ends labels label_attributes label_count label_starts label_ends attributes attribute_count attribute_starts attribute_ends)) ≡ adjust_spec (point_store s (entered store last_known_shingle reference_count location index_starts index_ends labels label_attributes label_count label_starts label_ends attributes attribute_count attribute_starts attribute_ends)) (pairings pairs.now) }
+    ensures { outcome (adjusted_means result.answer) (point_store result.store (held store.now last_known_shingle.now reference_count.new location.new index_starts.new index_ends.new labels.now label_attributes.now label_count.new label_starts.new label_ends.new attributes.now attribute_count.new attribute_starts.new attribute_ends.new)) ≡ adjust_spec (point_store s (held store.now last_known_shingle.now reference_count.old location.old index_starts.old index_ends.old labels.now label_attributes.now label_count.old label_starts.old label_ends.old attributes.now attribute_count.old attribute_starts.old attribute_ends.old)) (pairings pairs.now) }
 {
     let checked = check(
         s,

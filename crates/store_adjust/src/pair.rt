@@ -5,8 +5,8 @@ ghost use Rattle.store_definitions.specs.Answers.{outcome, done_means};
 ghost use Rattle.store_definitions.specs.Counting.{pair_decided, pair_done};
 ghost use Rattle.store_definitions.specs.Memory.{point_store};
 ghost use Rattle.store_definitions.specs.WellFormed.{well_formed};
-ghost use Rattle.store_check.specs.Tables.{tables, tables_at_entry};
-ghost use Rattle.store_counts.specs.Tables.{counts_alone, tables_at_exit};
+ghost use Rattle.store_check.specs.Tables.{tables};
+ghost use Rattle.store_counts.specs.Tables.{counts_alone};
 ghost use Rattle.store_adjust.specs.Pairs.{pair_of, pair_test, pair_spec};
 
 use interval_store_manager::Decision;
@@ -65,8 +65,8 @@ fn pair_accepted(
     delete_index: usize,
     delete_label: usize,
 ) -> Store
-    requires { (well_formed (point_store s (tables floats window reference_count location index_starts index_ends labels label_attributes label_count label_starts label_ends attributes attribute_count attribute_starts attribute_ends)) ≡ true) × (pair_decided (point_store s (tables floats window reference_count location index_starts index_ends labels label_attributes label_count label_starts label_ends attributes attribute_count attribute_starts attribute_ends)) (pair_of insert_index insert_label delete_index delete_label) ≡ go) }
-    ensures { point_store result (tables_at_exit floats window reference_count location index_starts index_ends labels label_attributes label_count label_starts label_ends attributes attribute_count attribute_starts attribute_ends) ≡ pair_done (point_store s (tables_at_entry floats window reference_count location index_starts index_ends labels label_attributes label_count label_starts label_ends attributes attribute_count attribute_starts attribute_ends)) (pair_of insert_index insert_label delete_index delete_label) }
+    requires { (well_formed (point_store s (tables floats window reference_count.old location.old index_starts.old index_ends.old labels.now label_attributes.now label_count.old label_starts.old label_ends.old attributes.now attribute_count.old attribute_starts.old attribute_ends.old)) ≡ true) × (pair_decided (point_store s (tables floats window reference_count.old location.old index_starts.old index_ends.old labels.now label_attributes.now label_count.old label_starts.old label_ends.old attributes.now attribute_count.old attribute_starts.old attribute_ends.old)) (pair_of insert_index insert_label delete_index delete_label) ≡ go) }
+    ensures { point_store result (tables floats window reference_count.new location.new index_starts.new index_ends.new labels.now label_attributes.now label_count.new label_starts.new label_ends.new attributes.now attribute_count.new attribute_starts.new attribute_ends.new) ≡ pair_done (point_store s (tables floats window reference_count.old location.old index_starts.old index_ends.old labels.now label_attributes.now label_count.old label_starts.old label_ends.old attributes.now attribute_count.old attribute_starts.old attribute_ends.old)) (pair_of insert_index insert_label delete_index delete_label) }
 {
     let index = PointIndex(insert_index);
     let label = LabelIndex(insert_label);
@@ -140,8 +140,8 @@ pub fn adjust_pair(
     delete_index: usize,
     delete_label: usize,
 ) -> DoneResult
-    requires { well_formed (point_store s (tables floats window reference_count location index_starts index_ends labels label_attributes label_count label_starts label_ends attributes attribute_count attribute_starts attribute_ends)) ≡ true }
-    ensures { outcome (done_means result.answer) (point_store result.store (tables_at_exit floats window reference_count location index_starts index_ends labels label_attributes label_count label_starts label_ends attributes attribute_count attribute_starts attribute_ends)) ≡ pair_spec (point_store s (tables_at_entry floats window reference_count location index_starts index_ends labels label_attributes label_count label_starts label_ends attributes attribute_count attribute_starts attribute_ends)) (pair_of insert_index insert_label delete_index delete_label) }
+    requires { well_formed (point_store s (tables floats window reference_count.old location.old index_starts.old index_ends.old labels.now label_attributes.now label_count.old label_starts.old label_ends.old attributes.now attribute_count.old attribute_starts.old attribute_ends.old)) ≡ true }
+    ensures { outcome (done_means result.answer) (point_store result.store (tables floats window reference_count.new location.new index_starts.new index_ends.new labels.now label_attributes.now label_count.new label_starts.new label_ends.new attributes.now attribute_count.new attribute_starts.new attribute_ends.new)) ≡ pair_spec (point_store s (tables floats window reference_count.old location.old index_starts.old index_ends.old labels.now label_attributes.now label_count.old label_starts.old label_ends.old attributes.now attribute_count.old attribute_starts.old attribute_ends.old)) (pair_of insert_index insert_label delete_index delete_label) }
 {
     if insert_index == NONE {
         return DoneResult {

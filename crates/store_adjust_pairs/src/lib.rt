@@ -5,7 +5,7 @@
 ghost use Rattle.std.specs.Prelude.{true, [], ◌∷◌, ◌≡◌};
 ghost use Rattle.store_definitions.specs.Answers.{outcome, adjusted_means, done_means};
 ghost use Rattle.store_definitions.specs.Counting.{adjust_from, adjust_spec};
-ghost use Rattle.store_definitions.specs.Lent.{held, entered, left};
+ghost use Rattle.store_definitions.specs.Lent.{held};
 ghost use Rattle.store_definitions.specs.Memory.{point_store};
 ghost use Rattle.store_definitions.specs.WellFormed.{well_formed};
 ghost use Rattle.store_adjust.specs.Pairs.{pair_of};
@@ -84,7 +84,7 @@ pub fn first_step<'a>(
     attribute_starts: &'a mut [u16],
     attribute_ends: &'a mut [u16],
 ) -> PairStep
-    ensures { comes_to result (left store last_known_shingle reference_count location index_starts index_ends labels label_attributes label_count label_starts label_ends attributes attribute_count attribute_starts attribute_ends) (adjust_spec (point_store s (entered store last_known_shingle reference_count location index_starts index_ends labels label_attributes label_count label_starts label_ends attributes attribute_count attribute_starts attribute_ends)) []) }
+    ensures { comes_to result (held store.new last_known_shingle.new reference_count.new location.new index_starts.new index_ends.new labels.new label_attributes.new label_count.new label_starts.new label_ends.new attributes.new attribute_count.new attribute_starts.new attribute_ends.new) (adjust_spec (point_store s (held store.old last_known_shingle.old reference_count.old location.old index_starts.old index_ends.old labels.old label_attributes.old label_count.old label_starts.old label_ends.old attributes.old attribute_count.old attribute_starts.old attribute_ends.old)) []) }
 {
     let checked = check(
         s,
@@ -131,8 +131,8 @@ pub fn next_step<'a>(
     delete_index: usize,
     delete_label: usize,
 ) -> PairStep
-    requires { well_formed (point_store s (held store last_known_shingle reference_count location index_starts index_ends labels label_attributes label_count label_starts label_ends attributes attribute_count attribute_starts attribute_ends)) ≡ true }
-    ensures { comes_to result (left store last_known_shingle reference_count location index_starts index_ends labels label_attributes label_count label_starts label_ends attributes attribute_count attribute_starts attribute_ends) (adjust_from pairs_before (pair_of insert_index insert_label delete_index delete_label ∷ []) (point_store s (entered store last_known_shingle reference_count location index_starts index_ends labels label_attributes label_count label_starts label_ends attributes attribute_count attribute_starts attribute_ends))) }
+    requires { well_formed (point_store s (held store.old last_known_shingle.old reference_count.old location.old index_starts.old index_ends.old labels.old label_attributes.old label_count.old label_starts.old label_ends.old attributes.old attribute_count.old attribute_starts.old attribute_ends.old)) ≡ true }
+    ensures { comes_to result (held store.new last_known_shingle.new reference_count.new location.new index_starts.new index_ends.new labels.new label_attributes.new label_count.new label_starts.new label_ends.new attributes.new attribute_count.new attribute_starts.new attribute_ends.new) (adjust_from pairs_before (pair_of insert_index insert_label delete_index delete_label ∷ []) (point_store s (held store.old last_known_shingle.old reference_count.old location.old index_starts.old index_ends.old labels.old label_attributes.old label_count.old label_starts.old label_ends.old attributes.old attribute_count.old attribute_starts.old attribute_ends.old))) }
 {
     let done = adjust_pair(
         s,
@@ -178,7 +178,7 @@ pub fn adjust_count(
     attribute_ends: &mut [u16],
     pairs: &[Pair],
 ) -> AdjustResult
-    ensures { outcome (adjusted_means result.answer) (point_store result.store (left store last_known_shingle reference_count location index_starts index_ends labels label_attributes label_count label_starts label_ends attributes attribute_count attribute_starts attribute_ends)) ≡ adjust_spec (point_store s (entered store last_known_shingle reference_count location index_starts index_ends labels label_attributes label_count label_starts label_ends attributes attribute_count attribute_starts attribute_ends)) (pairings_of pairs.now) }
+    ensures { outcome (adjusted_means result.answer) (point_store result.store (held store.new last_known_shingle.new reference_count.new location.new index_starts.new index_ends.new labels.new label_attributes.new label_count.new label_starts.new label_ends.new attributes.new attribute_count.new attribute_starts.new attribute_ends.new)) ≡ adjust_spec (point_store s (held store.old last_known_shingle.old reference_count.old location.old index_starts.old index_ends.old labels.old label_attributes.old label_count.old label_starts.old label_ends.old attributes.old attribute_count.old attribute_starts.old attribute_ends.old)) (pairings_of pairs.now) }
 {
     let mut step = first_step(
         s,

@@ -1,11 +1,10 @@
 -- The lent tables as the contracts see them. Of the rows' elements only the lengths are known: they stand as lists of units.
 use Rattle.std.specs.Prelude.{ℕ, List, replicate}
-use Rattle.std.specs.Borrow.{Bor}
 use denote.Triple.Both.{Both}
 use Rattle.store_definitions.specs.Memory.{Memory}
 
 abbrev pub Ref : Type 0
-Ref = Bor (List ℕ)
+Ref = List ℕ
 
 abbrev pub Slice : Type 0
 Slice = Both Ref Ref
@@ -15,19 +14,19 @@ tables floats window counts location starts ends labels slots label_counts label
     record {
       store = replicate floats tt;
       last_known_shingle = replicate window tt;
-      reference_count = counts.now;
-      location = location.now;
-      index_starts = starts.now;
-      index_ends = ends.now;
-      labels = labels.now;
-      label_attributes = slots.now;
-      label_count = label_counts.now;
-      label_starts = label_starts.now;
-      label_ends = label_ends.now;
-      attributes = classes.now;
-      attribute_count = slot_counts.now;
-      attribute_starts = slot_starts.now;
-      attribute_ends = slot_ends.now;
+      reference_count = counts;
+      location = location;
+      index_starts = starts;
+      index_ends = ends;
+      labels = labels;
+      label_attributes = slots;
+      label_count = label_counts;
+      label_starts = label_starts;
+      label_ends = label_ends;
+      attributes = classes;
+      attribute_count = slot_counts;
+      attribute_starts = slot_starts;
+      attribute_ends = slot_ends;
     }
 
 -- as a call began

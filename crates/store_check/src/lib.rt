@@ -6,7 +6,7 @@ ghost use Rattle.std.specs.Prelude.{true, ◌≡◌};
 ghost use Rattle.store_definitions.specs.Memory.{point_store};
 ghost use Rattle.store_definitions.specs.WellFormed.{well_formed};
 ghost use Rattle.store_check.specs.Figures.{FiguresOf};
-ghost use Rattle.store_check.specs.Tables.{tables_at_entry};
+
 
 mod bounds;
 mod points;
@@ -54,7 +54,7 @@ pub fn check(
     attribute_starts: &[u16],
     attribute_ends: &[u16],
 ) -> StoreChecked
-    ensures { (result.ok ≡ well_formed (point_store s (tables_at_entry floats window reference_count location index_starts index_ends labels label_attributes label_count label_starts label_ends attributes attribute_count attribute_starts attribute_ends))) × ((result.ok ≡ true → FiguresOf result.figures (point_store s (tables_at_entry floats window reference_count location index_starts index_ends labels label_attributes label_count label_starts label_ends attributes attribute_count attribute_starts attribute_ends)))) }
+    ensures { (result.ok ≡ well_formed (point_store s (tables floats window reference_count.now location.now index_starts.now index_ends.now labels.now label_attributes.now label_count.now label_starts.now label_ends.now attributes.now attribute_count.now attribute_starts.now attribute_ends.now))) × ((result.ok ≡ true → FiguresOf result.figures (point_store s (tables floats window reference_count.now location.now index_starts.now index_ends.now labels.now label_attributes.now label_count.now label_starts.now label_ends.now attributes.now attribute_count.now attribute_starts.now attribute_ends.now)))) }
 {
     let lent = Lengths {
         floats,

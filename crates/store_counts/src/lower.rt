@@ -5,11 +5,11 @@ ghost use Rattle.labels.specs.Counted.{counted, lowered};
 ghost use Rattle.labels.specs.Forms.{InUse};
 ghost use Rattle.store_definitions.specs.Answers.{outcome, done_means};
 ghost use Rattle.store_definitions.specs.Counting.{dec_test, decremented, dec_spec};
-ghost use Rattle.store_definitions.specs.Lent.{entered, left};
+ghost use Rattle.store_definitions.specs.Lent.{held};
 ghost use Rattle.store_definitions.specs.Memory.{point_store};
 ghost use Rattle.store_definitions.specs.WellFormed.{well_formed};
-ghost use Rattle.store_check.specs.Tables.{tables, tables_at_entry};
-ghost use Rattle.store_counts.specs.Tables.{tables_at_exit, emptied};
+ghost use Rattle.store_check.specs.Tables.{tables};
+ghost use Rattle.store_counts.specs.Tables.{emptied};
 
 use crate::decide::dec_test;
 use interval_store_manager::{Decision, IntervalStoreManager};
@@ -62,8 +62,8 @@ pub fn dec_accepted(
     index: PointIndex,
     label: LabelIndex,
 ) -> Store
-    requires { (well_formed (point_store s (tables floats window reference_count location index_starts index_ends labels label_attributes label_count label_starts label_ends attributes attribute_count attribute_starts attribute_ends)) ≡ true) × (dec_test (point_store s (tables floats window reference_count location index_starts index_ends labels label_attributes label_count label_starts label_ends attributes attribute_count attribute_starts attribute_ends)) index.0 label.0 ≡ go) }
-    ensures { point_store result (tables_at_exit floats window reference_count location index_starts index_ends labels label_attributes label_count label_starts label_ends attributes attribute_count attribute_starts attribute_ends) ≡ decremented (point_store s (tables_at_entry floats window reference_count location index_starts index_ends labels label_attributes label_count label_starts label_ends attributes attribute_count attribute_starts attribute_ends)) index.0 label.0 }
+    requires { (well_formed (point_store s (tables floats window reference_count.old location.old index_starts.old index_ends.old labels.now label_attributes.now label_count.old label_starts.old label_ends.old attributes.now attribute_count.old attribute_starts.old attribute_ends.old)) ≡ true) × (dec_test (point_store s (tables floats window reference_count.old location.old index_starts.old index_ends.old labels.now label_attributes.now label_count.old label_starts.old label_ends.old attributes.now attribute_count.old attribute_starts.old attribute_ends.old)) index.0 label.0 ≡ go) }
+    ensures { point_store result (tables floats window reference_count.new location.new index_starts.new index_ends.new labels.now label_attributes.now label_count.new label_starts.new label_ends.new attributes.now attribute_count.new attribute_starts.new attribute_ends.new) ≡ decremented (point_store s (tables floats window reference_count.old location.old index_starts.old index_ends.old labels.now label_attributes.now label_count.old label_starts.old label_ends.old attributes.now attribute_count.old attribute_starts.old attribute_ends.old)) index.0 label.0 }
 {
     let index_manager = s.index_manager;
     let index_after = lower_point(
@@ -152,8 +152,8 @@ pub fn dec_unchecked(
     index: PointIndex,
     label: LabelIndex,
 ) -> DoneResult
-    requires { well_formed (point_store s (tables floats window reference_count location index_starts index_ends labels label_attributes label_count label_starts label_ends attributes attribute_count attribute_starts attribute_ends)) ≡ true }
-    ensures { outcome (done_means result.answer) (point_store result.store (tables_at_exit floats window reference_count location index_starts index_ends labels label_attributes label_count label_starts label_ends attributes attribute_count attribute_starts attribute_ends)) ≡ dec_spec (point_store s (tables_at_entry floats window reference_count location index_starts index_ends labels label_attributes label_count label_starts label_ends attributes attribute_count attribute_starts attribute_ends)) index.0 label.0 }
+    requires { well_formed (point_store s (tables floats window reference_count.old location.old index_starts.old index_ends.old labels.now label_attributes.now label_count.old label_starts.old label_ends.old attributes.now attribute_count.old attribute_starts.old attribute_ends.old)) ≡ true }
+    ensures { outcome (done_means result.answer) (point_store result.store (tables floats window reference_count.new location.new index_starts.new index_ends.new labels.now label_attributes.now label_count.new label_starts.new label_ends.new attributes.now attribute_count.new attribute_starts.new attribute_ends.new)) ≡ dec_spec (point_store s (tables floats window reference_count.old location.old index_starts.old index_ends.old labels.now label_attributes.now label_count.old label_starts.old label_ends.old attributes.now attribute_count.old attribute_starts.old attribute_ends.old)) index.0 label.0 }
 {
     let d = dec_test(s, reference_count, label_count, index, label);
     match d {
@@ -210,7 +210,7 @@ pub fn dec(
     index: PointIndex,
     label: LabelIndex,
 ) -> DoneResult
-    ensures { outcome (done_means result.answer) (point_store result.store (left store last_known_shingle reference_count location index_starts index_ends labels label_attributes label_count label_starts label_ends attributes attribute_count attribute_starts attribute_ends)) ≡ dec_spec (point_store s (entered store last_known_shingle reference_count location index_starts index_ends labels label_attributes label_count label_starts label_ends attributes attribute_count attribute_starts attribute_ends)) index.0 label.0 }
+    ensures { outcome (done_means result.answer) (point_store result.store (held store.now last_known_shingle.now reference_count.new location.new index_starts.new index_ends.new labels.now label_attributes.now label_count.new label_starts.new label_ends.new attributes.now attribute_count.new attribute_starts.new attribute_ends.new)) ≡ dec_spec (point_store s (held store.now last_known_shingle.now reference_count.old location.old index_starts.old index_ends.old labels.now label_attributes.now label_count.old label_starts.old label_ends.old attributes.now attribute_count.old attribute_starts.old attribute_ends.old)) index.0 label.0 }
 {
     let checked = check(
         s,

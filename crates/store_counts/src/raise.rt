@@ -3,11 +3,11 @@ ghost use Rattle.std.specs.Prelude.{true, ◌≡◌};
 ghost use Rattle.interval_store_manager.specs.Calls.{go};
 ghost use Rattle.store_definitions.specs.Answers.{outcome, done_means};
 ghost use Rattle.store_definitions.specs.Counting.{inc_test, incremented, inc_spec};
-ghost use Rattle.store_definitions.specs.Lent.{entered, left};
+ghost use Rattle.store_definitions.specs.Lent.{held};
 ghost use Rattle.store_definitions.specs.Memory.{point_store};
 ghost use Rattle.store_definitions.specs.WellFormed.{well_formed};
-ghost use Rattle.store_check.specs.Tables.{tables, tables_at_entry};
-ghost use Rattle.store_counts.specs.Tables.{tables_at_exit};
+ghost use Rattle.store_check.specs.Tables.{tables};
+
 
 use crate::decide::inc_test;
 use interval_store_manager::Decision;
@@ -37,8 +37,8 @@ pub fn inc_accepted(
     index: PointIndex,
     label: LabelIndex,
 )
-    requires { (well_formed (point_store s (tables floats window reference_count location index_starts index_ends labels label_attributes label_count label_starts label_ends attributes attribute_count attribute_starts attribute_ends)) ≡ true) × (inc_test (point_store s (tables floats window reference_count location index_starts index_ends labels label_attributes label_count label_starts label_ends attributes attribute_count attribute_starts attribute_ends)) index.0 label.0 ≡ go) }
-    ensures { point_store s (tables_at_exit floats window reference_count location index_starts index_ends labels label_attributes label_count label_starts label_ends attributes attribute_count attribute_starts attribute_ends) ≡ incremented (point_store s (tables_at_entry floats window reference_count location index_starts index_ends labels label_attributes label_count label_starts label_ends attributes attribute_count attribute_starts attribute_ends)) index.0 label.0 }
+    requires { (well_formed (point_store s (tables floats window reference_count.old location.now index_starts.now index_ends.now labels.now label_attributes.now label_count.old label_starts.now label_ends.now attributes.now attribute_count.old attribute_starts.now attribute_ends.now)) ≡ true) × (inc_test (point_store s (tables floats window reference_count.old location.now index_starts.now index_ends.now labels.now label_attributes.now label_count.old label_starts.now label_ends.now attributes.now attribute_count.old attribute_starts.now attribute_ends.now)) index.0 label.0 ≡ go) }
+    ensures { point_store s (tables floats window reference_count.new location.now index_starts.now index_ends.now labels.now label_attributes.now label_count.new label_starts.now label_ends.now attributes.now attribute_count.new attribute_starts.now attribute_ends.now) ≡ incremented (point_store s (tables floats window reference_count.old location.now index_starts.now index_ends.now labels.now label_attributes.now label_count.old label_starts.now label_ends.now attributes.now attribute_count.old attribute_starts.now attribute_ends.now)) index.0 label.0 }
 {
     let i = index.0;
     reference_count[i] += 1;
@@ -88,8 +88,8 @@ pub fn inc_unchecked(
     index: PointIndex,
     label: LabelIndex,
 ) -> DoneResult
-    requires { well_formed (point_store s (tables floats window reference_count location index_starts index_ends labels label_attributes label_count label_starts label_ends attributes attribute_count attribute_starts attribute_ends)) ≡ true }
-    ensures { outcome (done_means result.answer) (point_store result.store (tables_at_exit floats window reference_count location index_starts index_ends labels label_attributes label_count label_starts label_ends attributes attribute_count attribute_starts attribute_ends)) ≡ inc_spec (point_store s (tables_at_entry floats window reference_count location index_starts index_ends labels label_attributes label_count label_starts label_ends attributes attribute_count attribute_starts attribute_ends)) index.0 label.0 }
+    requires { well_formed (point_store s (tables floats window reference_count.old location.now index_starts.now index_ends.now labels.now label_attributes.now label_count.old label_starts.now label_ends.now attributes.now attribute_count.old attribute_starts.now attribute_ends.now)) ≡ true }
+    ensures { outcome (done_means result.answer) (point_store result.store (tables floats window reference_count.new location.now index_starts.now index_ends.now labels.now label_attributes.now label_count.new label_starts.now label_ends.now attributes.now attribute_count.new attribute_starts.now attribute_ends.now)) ≡ inc_spec (point_store s (tables floats window reference_count.old location.now index_starts.now index_ends.now labels.now label_attributes.now label_count.old label_starts.now label_ends.now attributes.now attribute_count.old attribute_starts.now attribute_ends.now)) index.0 label.0 }
 {
     let d = inc_test(s, reference_count, label_count, index, label);
     match d {
@@ -146,7 +146,7 @@ pub fn inc(
     index: PointIndex,
     label: LabelIndex,
 ) -> DoneResult
-    ensures { outcome (done_means result.answer) (point_store result.store (left store last_known_shingle reference_count location index_starts index_ends labels label_attributes label_count label_starts label_ends attributes attribute_count attribute_starts attribute_ends)) ≡ inc_spec (point_store s (entered store last_known_shingle reference_count location index_starts index_ends labels label_attributes label_count label_starts label_ends attributes attribute_count attribute_starts attribute_ends)) index.0 label.0 }
+    ensures { outcome (done_means result.answer) (point_store result.store (held store.now last_known_shingle.now reference_count.new location.now index_starts.now index_ends.now labels.now label_attributes.now label_count.new label_starts.now label_ends.now attributes.now attribute_count.new attribute_starts.now attribute_ends.now)) ≡ inc_spec (point_store s (held store.now last_known_shingle.now reference_count.old location.now index_starts.now index_ends.now labels.now label_attributes.now label_count.old label_starts.now label_ends.now attributes.now attribute_count.old attribute_starts.now attribute_ends.now)) index.0 label.0 }
 {
     let checked = check(
         s,

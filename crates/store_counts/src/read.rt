@@ -2,7 +2,7 @@
 ghost use Rattle.std.specs.Prelude.{◌≡◌};
 ghost use Rattle.store_definitions.specs.Answers.{number_means};
 ghost use Rattle.store_definitions.specs.Counting.{count_spec, live_number_spec, free_start_spec};
-ghost use Rattle.store_definitions.specs.Lent.{entered};
+ghost use Rattle.store_definitions.specs.Lent.{held};
 ghost use Rattle.store_definitions.specs.Memory.{point_store};
 
 use crate::decide::{point_count, point_in_use};
@@ -29,7 +29,7 @@ pub fn count(
     attribute_ends: &[u16],
     index: PointIndex,
 ) -> Number
-    ensures { number_means result ≡ count_spec (point_store s (entered store last_known_shingle reference_count location index_starts index_ends labels label_attributes label_count label_starts label_ends attributes attribute_count attribute_starts attribute_ends)) index.0 }
+    ensures { number_means result ≡ count_spec (point_store s (held store.now last_known_shingle.now reference_count.now location.now index_starts.now index_ends.now labels.now label_attributes.now label_count.now label_starts.now label_ends.now attributes.now attribute_count.now attribute_starts.now attribute_ends.now)) index.0 }
 {
     let checked = check(
         s,
@@ -77,7 +77,7 @@ pub fn live_number(
     attribute_starts: &[u16],
     attribute_ends: &[u16],
 ) -> Number
-    ensures { number_means result ≡ live_number_spec (point_store s (entered store last_known_shingle reference_count location index_starts index_ends labels label_attributes label_count label_starts label_ends attributes attribute_count attribute_starts attribute_ends)) }
+    ensures { number_means result ≡ live_number_spec (point_store s (held store.now last_known_shingle.now reference_count.now location.now index_starts.now index_ends.now labels.now label_attributes.now label_count.now label_starts.now label_ends.now attributes.now attribute_count.now attribute_starts.now attribute_ends.now)) }
 {
     let checked = check(
         s,
@@ -122,7 +122,7 @@ pub fn free_start(
     attribute_starts: &[u16],
     attribute_ends: &[u16],
 ) -> Number
-    ensures { number_means result ≡ free_start_spec (point_store s (entered store last_known_shingle reference_count location index_starts index_ends labels label_attributes label_count label_starts label_ends attributes attribute_count attribute_starts attribute_ends)) }
+    ensures { number_means result ≡ free_start_spec (point_store s (held store.now last_known_shingle.now reference_count.now location.now index_starts.now index_ends.now labels.now label_attributes.now label_count.now label_starts.now label_ends.now attributes.now attribute_count.now attribute_starts.now attribute_ends.now)) }
 {
     let checked = check(
         s,

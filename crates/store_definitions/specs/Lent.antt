@@ -1,12 +1,11 @@
 -- The fifteen lent slices of a store as a contract sees them: where a call is asked for, when it began, and when it ended. The
 -- elements are 32-bit float words.
 use Rattle.std.specs.Prelude.{ℕ, List}
-use Rattle.std.specs.Borrow.{Bor}
 use denote.Triple.Both.{Both}
 use Rattle.store_definitions.specs.Memory.{Memory}
 
 abbrev pub Ref : Type 0
-Ref = Bor (List ℕ)
+Ref = List ℕ
 
 abbrev pub Slice : Type 0
 Slice = Both Ref Ref
@@ -14,21 +13,21 @@ Slice = Both Ref Ref
 abbrev pub held : Ref → Ref → Ref → Ref → Ref → Ref → Ref → Ref → Ref → Ref → Ref → Ref → Ref → Ref → Ref → Memory ℕ
 held store window counts location starts ends labels slots label_counts label_starts label_ends classes slot_counts slot_starts slot_ends =
     record {
-      store = store.now;
-      last_known_shingle = window.now;
-      reference_count = counts.now;
-      location = location.now;
-      index_starts = starts.now;
-      index_ends = ends.now;
-      labels = labels.now;
-      label_attributes = slots.now;
-      label_count = label_counts.now;
-      label_starts = label_starts.now;
-      label_ends = label_ends.now;
-      attributes = classes.now;
-      attribute_count = slot_counts.now;
-      attribute_starts = slot_starts.now;
-      attribute_ends = slot_ends.now;
+      store = store;
+      last_known_shingle = window;
+      reference_count = counts;
+      location = location;
+      index_starts = starts;
+      index_ends = ends;
+      labels = labels;
+      label_attributes = slots;
+      label_count = label_counts;
+      label_starts = label_starts;
+      label_ends = label_ends;
+      attributes = classes;
+      attribute_count = slot_counts;
+      attribute_starts = slot_starts;
+      attribute_ends = slot_ends;
     }
 
 abbrev pub entered : Slice → Slice → Slice → Slice → Slice → Slice → Slice → Slice → Slice → Slice → Slice → Slice → Slice → Slice → Slice → Memory ℕ

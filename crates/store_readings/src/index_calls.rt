@@ -2,7 +2,7 @@
 ghost use Rattle.std.specs.Prelude.{◌≡◌};
 ghost use Rattle.store_definitions.specs.Answers.{done_means, output};
 ghost use Rattle.store_definitions.specs.IndexLists.{missing_indices_spec, next_indices_spec};
-ghost use Rattle.store_definitions.specs.Lent.{entered};
+ghost use Rattle.store_definitions.specs.Lent.{held};
 ghost use Rattle.store_definitions.specs.Memory.{point_store};
 
 use row_readings::{missing_indices_unchecked, next_indices_unchecked};
@@ -31,7 +31,7 @@ pub fn missing_indices(
     values: &[usize],
     out: &mut [usize],
 ) -> Done
-    ensures { output (done_means result) out.new ≡ missing_indices_spec (point_store s (entered store last_known_shingle reference_count location index_starts index_ends labels label_attributes label_count label_starts label_ends attributes attribute_count attribute_starts attribute_ends)) look_ahead values.now out.old }
+    ensures { output (done_means result) out.new ≡ missing_indices_spec (point_store s (held store.now last_known_shingle.now reference_count.now location.now index_starts.now index_ends.now labels.now label_attributes.now label_count.now label_starts.now label_ends.now attributes.now attribute_count.now attribute_starts.now attribute_ends.now)) look_ahead values.now out.old }
 {
     let checked = check(
         s,
@@ -79,7 +79,7 @@ pub fn next_indices(
     look_ahead: usize,
     out: &mut [usize],
 ) -> Done
-    ensures { output (done_means result) out.new ≡ next_indices_spec (point_store s (entered store last_known_shingle reference_count location index_starts index_ends labels label_attributes label_count label_starts label_ends attributes attribute_count attribute_starts attribute_ends)) look_ahead out.old }
+    ensures { output (done_means result) out.new ≡ next_indices_spec (point_store s (held store.now last_known_shingle.now reference_count.now location.now index_starts.now index_ends.now labels.now label_attributes.now label_count.now label_starts.now label_ends.now attributes.now attribute_count.now attribute_starts.now attribute_ends.now)) look_ahead out.old }
 {
     let checked = check(
         s,

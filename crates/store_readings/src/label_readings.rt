@@ -3,7 +3,7 @@ ghost use Rattle.std.specs.Prelude.{◌≡◌};
 ghost use Rattle.labels.specs.Readings.{label_read_means, vector_read_means};
 ghost use Rattle.store_definitions.specs.Answers.{done_means, number_means, output};
 ghost use Rattle.store_definitions.specs.LabelReadings.{told, label_spec, attribute_spec, attribute_vec_spec};
-ghost use Rattle.store_definitions.specs.Lent.{entered};
+ghost use Rattle.store_definitions.specs.Lent.{held};
 ghost use Rattle.store_definitions.specs.Memory.{point_store};
 
 use labels::{LabelRead, VectorRead};
@@ -49,7 +49,7 @@ pub fn label(
     attribute_ends: &[u16],
     label: LabelIndex,
 ) -> Number
-    ensures { number_means result ≡ label_spec (point_store s (entered store last_known_shingle reference_count location index_starts index_ends labels label_attributes label_count label_starts label_ends attributes attribute_count attribute_starts attribute_ends)) label.0 }
+    ensures { number_means result ≡ label_spec (point_store s (held store.now last_known_shingle.now reference_count.now location.now index_starts.now index_ends.now labels.now label_attributes.now label_count.now label_starts.now label_ends.now attributes.now attribute_count.now attribute_starts.now attribute_ends.now)) label.0 }
 {
     let checked = check(
         s,
@@ -96,7 +96,7 @@ pub fn attribute(
     attribute_ends: &[u16],
     label: LabelIndex,
 ) -> Number
-    ensures { number_means result ≡ attribute_spec (point_store s (entered store last_known_shingle reference_count location index_starts index_ends labels label_attributes label_count label_starts label_ends attributes attribute_count attribute_starts attribute_ends)) label.0 }
+    ensures { number_means result ≡ attribute_spec (point_store s (held store.now last_known_shingle.now reference_count.now location.now index_starts.now index_ends.now labels.now label_attributes.now label_count.now label_starts.now label_ends.now attributes.now attribute_count.now attribute_starts.now attribute_ends.now)) label.0 }
 {
     let checked = check(
         s,
@@ -151,7 +151,7 @@ pub fn attribute_vec(
     label: LabelIndex,
     out: &mut [f32],
 ) -> Done
-    ensures { output (done_means result) out.new ≡ attribute_vec_spec (point_store s (entered store last_known_shingle reference_count location index_starts index_ends labels label_attributes label_count label_starts label_ends attributes attribute_count attribute_starts attribute_ends)) label.0 out.old }
+    ensures { output (done_means result) out.new ≡ attribute_vec_spec (point_store s (held store.now last_known_shingle.now reference_count.now location.now index_starts.now index_ends.now labels.now label_attributes.now label_count.now label_starts.now label_ends.now attributes.now attribute_count.now attribute_starts.now attribute_ends.now)) label.0 out.old }
 {
     let checked = check(
         s,

@@ -1,7 +1,7 @@
 // The window that a next point would make.
 ghost use Rattle.std.specs.Prelude.{◌≡◌};
 ghost use Rattle.store_definitions.specs.Answers.{done_means, output};
-ghost use Rattle.store_definitions.specs.Lent.{entered};
+ghost use Rattle.store_definitions.specs.Lent.{held};
 ghost use Rattle.store_definitions.specs.Memory.{point_store};
 ghost use Rattle.store_definitions.specs.Preview.{shingled_point_spec};
 
@@ -30,7 +30,7 @@ pub fn shingled_point(
     point: &[FloatBits],
     out: &mut [FloatBits],
 ) -> Done
-    ensures { output (done_means result) out.new ≡ shingled_point_spec (point_store s (entered store last_known_shingle reference_count location index_starts index_ends labels label_attributes label_count label_starts label_ends attributes attribute_count attribute_starts attribute_ends)) point.now out.old }
+    ensures { output (done_means result) out.new ≡ shingled_point_spec (point_store s (held store.now last_known_shingle.now reference_count.now location.now index_starts.now index_ends.now labels.now label_attributes.now label_count.now label_starts.now label_ends.now attributes.now attribute_count.now attribute_starts.now attribute_ends.now)) point.now out.old }
 {
     let checked = check(
         s,

@@ -3,7 +3,7 @@ ghost use Rattle.std.specs.Prelude.{◌≡◌};
 ghost use Rattle.float_bits.specs.Rows.{add_scaled};
 ghost use Rattle.float_bits.specs.Words.{float_of, plus_zero, words_equal};
 ghost use Rattle.store_definitions.specs.Answers.{done_means, equality_means, output};
-ghost use Rattle.store_definitions.specs.Lent.{entered};
+ghost use Rattle.store_definitions.specs.Lent.{held};
 ghost use Rattle.store_definitions.specs.Memory.{point_store};
 ghost use Rattle.store_definitions.specs.Sums.{is_equal_spec, point_sum_spec};
 ghost use Rattle.row_readings.specs.Items.{weightings};
@@ -33,7 +33,7 @@ pub fn is_equal(
     index: PointIndex,
     point: &[FloatBits],
 ) -> Equality
-    ensures { equality_means result ≡ is_equal_spec words_equal (point_store s (entered store last_known_shingle reference_count location index_starts index_ends labels label_attributes label_count label_starts label_ends attributes attribute_count attribute_starts attribute_ends)) index.0 point.now }
+    ensures { equality_means result ≡ is_equal_spec words_equal (point_store s (held store.now last_known_shingle.now reference_count.now location.now index_starts.now index_ends.now labels.now label_attributes.now label_count.now label_starts.now label_ends.now attributes.now attribute_count.now attribute_starts.now attribute_ends.now)) index.0 point.now }
 {
     let checked = check(
         s,
@@ -81,7 +81,7 @@ pub fn point_sum_plain(
     items: &[[usize; 2]],
     out: &mut [f32],
 ) -> Done
-    ensures { output (done_means result) out.new ≡ point_sum_spec add_scaled (float_of plus_zero) (point_store s (entered store last_known_shingle reference_count location index_starts index_ends labels label_attributes label_count label_starts label_ends attributes attribute_count attribute_starts attribute_ends)) (weightings items.now) out.old }
+    ensures { output (done_means result) out.new ≡ point_sum_spec add_scaled (float_of plus_zero) (point_store s (held store.now last_known_shingle.now reference_count.now location.now index_starts.now index_ends.now labels.now label_attributes.now label_count.now label_starts.now label_ends.now attributes.now attribute_count.now attribute_starts.now attribute_ends.now)) (weightings items.now) out.old }
 {
     let checked = check(
         s,

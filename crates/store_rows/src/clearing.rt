@@ -1,7 +1,7 @@
 // What an opening writes into the lent tables: the entries that a fresh store has in use, and nothing past them.
 ghost use Rattle.std.specs.Prelude.{true, ◌≡◌, ◌-◌, set};
 ghost use Rattle.label_opening.specs.OpeningLaws.{LabelsOpenable};
-ghost use Rattle.labels.specs.Forms.{entered, left};
+ghost use Rattle.labels.specs.Forms.{held};
 ghost use Rattle.labels.specs.Opening.{Openable};
 ghost use Rattle.store_rows.specs.Openings.{PointsReady, points, points_opened, label_managers, labels_opened_if};
 
@@ -53,7 +53,7 @@ pub fn open_labels(
     attribute_ends: &mut [u16],
 )
     requires { store_labels ≡ true → LabelsOpenable capacity labels.old label_attributes.old label_count.old label_starts.old label_ends.old attributes.old attribute_count.old attribute_starts.old attribute_ends.old }
-    ensures { left (label_managers capacity) labels label_attributes label_count label_starts label_ends attributes attribute_count attribute_starts attribute_ends ≡ labels_opened_if store_labels capacity (entered (label_managers capacity) labels label_attributes label_count label_starts label_ends attributes attribute_count attribute_starts attribute_ends) }
+    ensures { held (label_managers capacity) labels.new label_attributes.new label_count.new label_starts.new label_ends.new attributes.new attribute_count.new attribute_starts.new attribute_ends.new ≡ labels_opened_if store_labels capacity (held (label_managers capacity) labels.old label_attributes.old label_count.old label_starts.old label_ends.old attributes.old attribute_count.old attribute_starts.old attribute_ends.old) }
 {
     if store_labels {
         label_opening::open_labels(

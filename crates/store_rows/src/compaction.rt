@@ -1,7 +1,7 @@
 // Compaction of a store's rows.
 ghost use Rattle.std.specs.Prelude.{◌≡◌};
 ghost use Rattle.store_definitions.specs.Answers.{done_means, outcome};
-ghost use Rattle.store_definitions.specs.Lent.{entered, left};
+ghost use Rattle.store_definitions.specs.Lent.{held};
 ghost use Rattle.store_definitions.specs.Memory.{point_store};
 ghost use Rattle.store_definitions.specs.Rows.{compacted_rows, compact_spec};
 ghost use Rattle.store_rows.specs.Compacting.{rows, RowsReady};
@@ -49,7 +49,7 @@ pub fn compact(
     attribute_starts: &[u16],
     attribute_ends: &[u16],
 ) -> DoneResult
-    ensures { outcome (done_means result.answer) (point_store result.store (left store last_known_shingle reference_count location index_starts index_ends labels label_attributes label_count label_starts label_ends attributes attribute_count attribute_starts attribute_ends)) ≡ compact_spec 0 (point_store s (entered store last_known_shingle reference_count location index_starts index_ends labels label_attributes label_count label_starts label_ends attributes attribute_count attribute_starts attribute_ends)) }
+    ensures { outcome (done_means result.answer) (point_store result.store (held store.new last_known_shingle.now reference_count.now location.new index_starts.now index_ends.now labels.now label_attributes.now label_count.now label_starts.now label_ends.now attributes.now attribute_count.now attribute_starts.now attribute_ends.now)) ≡ compact_spec 0 (point_store s (held store.old last_known_shingle.now reference_count.now location.old index_starts.now index_ends.now labels.now label_attributes.now label_count.now label_starts.now label_ends.now attributes.now attribute_count.now attribute_starts.now attribute_ends.now)) }
 {
     let checked = check(
         s,

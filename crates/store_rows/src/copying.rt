@@ -1,7 +1,7 @@
 // A point's row copied out.
 ghost use Rattle.std.specs.Prelude.{◌≡◌, length};
 ghost use Rattle.store_definitions.specs.Answers.{done_means, output};
-ghost use Rattle.store_definitions.specs.Lent.{entered};
+ghost use Rattle.store_definitions.specs.Lent.{held};
 ghost use Rattle.store_definitions.specs.Memory.{point_store};
 ghost use Rattle.store_definitions.specs.Rows.{copy_spec};
 ghost use Rattle.store_rows.specs.Copying.{Readable, checked_copy};
@@ -60,7 +60,7 @@ pub fn copy(
     index: PointIndex,
     out: &mut [FloatBits],
 ) -> Done
-    ensures { output (done_means result) out.new ≡ copy_spec (point_store s (entered store last_known_shingle reference_count location index_starts index_ends labels label_attributes label_count label_starts label_ends attributes attribute_count attribute_starts attribute_ends)) index.0 out.old }
+    ensures { output (done_means result) out.new ≡ copy_spec (point_store s (held store.now last_known_shingle.now reference_count.now location.now index_starts.now index_ends.now labels.now label_attributes.now label_count.now label_starts.now label_ends.now attributes.now attribute_count.now attribute_starts.now attribute_ends.now)) index.0 out.old }
 {
     let checked = check(
         s,

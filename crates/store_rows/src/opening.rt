@@ -1,10 +1,10 @@
 // Opening a store in lent memory.
 ghost use Rattle.std.specs.Prelude.{true, ◌≡◌, ◌*◌, ◌≤◌};
 ghost use Rattle.interval_store_manager.specs.Calls.{decision_means};
-ghost use Rattle.labels.specs.Forms.{entered as labelsEntered};
+ghost use Rattle.labels.specs.Forms.{held as labels_held};
 ghost use Rattle.store_definitions.specs.Answers.{done_means, outcome};
 ghost use Rattle.store_definitions.specs.Bounds.{bounds_hold, lent_enough};
-ghost use Rattle.store_definitions.specs.Lent.{entered, left};
+ghost use Rattle.store_definitions.specs.Lent.{held};
 ghost use Rattle.store_definitions.specs.Memory.{point_store};
 ghost use Rattle.store_definitions.specs.Opening.{fresh_with, no_record, open_judged, open_spec};
 ghost use Rattle.store_rows.specs.Openings.{label_managers, labels_lent_if};
@@ -30,7 +30,7 @@ fn labels_lent(
     attribute_starts: &[u16],
     attribute_ends: &[u16],
 ) -> bool
-    ensures { result ≡ labels_lent_if store_labels capacity (labelsEntered (label_managers capacity) labels label_attributes label_count label_starts label_ends attributes attribute_count attribute_starts attribute_ends) }
+    ensures { result ≡ labels_lent_if store_labels capacity (labels_held (label_managers capacity) labels.now label_attributes.now label_count.now label_starts.now label_ends.now attributes.now attribute_count.now attribute_starts.now attribute_ends.now) }
 {
     if store_labels {
         let slots = (capacity <= attributes.len())
@@ -65,7 +65,7 @@ fn enough_lent(
     attribute_ends: &[u16],
 ) -> bool
     requires { bounds_hold shape.dimensions shape.shingle_size shape.capacity ≡ true }
-    ensures { result ≡ lent_enough shape.dimensions shape.capacity shape.store_labels (entered store last_known_shingle reference_count location index_starts index_ends labels label_attributes label_count label_starts label_ends attributes attribute_count attribute_starts attribute_ends) }
+    ensures { result ≡ lent_enough shape.dimensions shape.capacity shape.store_labels (held store.now last_known_shingle.now reference_count.now location.now index_starts.now index_ends.now labels.now label_attributes.now label_count.now label_starts.now label_ends.now attributes.now attribute_count.now attribute_starts.now attribute_ends.now) }
 {
     let capacity = shape.capacity;
     let of_labels = labels_lent(
@@ -109,7 +109,7 @@ fn opening_decision(
     attribute_starts: &[u16],
     attribute_ends: &[u16],
 ) -> Decision
-    ensures { decision_means result ≡ open_judged shape table (entered store last_known_shingle reference_count location index_starts index_ends labels label_attributes label_count label_starts label_ends attributes attribute_count attribute_starts attribute_ends) }
+    ensures { decision_means result ≡ open_judged shape table (held store.now last_known_shingle.now reference_count.now location.now index_starts.now index_ends.now labels.now label_attributes.now label_count.now label_starts.now label_ends.now attributes.now attribute_count.now attribute_starts.now attribute_ends.now) }
 {
     if bounds_hold(shape.dimensions, shape.shingle_size, shape.capacity) {
         if shape.initial_capacity < 1 {
@@ -222,7 +222,7 @@ pub fn open(
     attribute_ends: &mut [u16],
     class_text: &[u8],
 ) -> DoneResult
-    ensures { outcome (done_means result.answer) (point_store result.store (left store last_known_shingle reference_count location index_starts index_ends labels label_attributes label_count label_starts label_ends attributes attribute_count attribute_starts attribute_ends)) ≡ open_spec 0 shape class_text.now (entered store last_known_shingle reference_count location index_starts index_ends labels label_attributes label_count label_starts label_ends attributes attribute_count attribute_starts attribute_ends) }
+    ensures { outcome (done_means result.answer) (point_store result.store (held store.new last_known_shingle.new reference_count.new location.new index_starts.new index_ends.new labels.new label_attributes.new label_count.new label_starts.new label_ends.new attributes.new attribute_count.new attribute_starts.new attribute_ends.new)) ≡ open_spec 0 shape class_text.now (held store.old last_known_shingle.old reference_count.old location.old index_starts.old index_ends.old labels.old label_attributes.old label_count.old label_starts.old label_ends.old attributes.old attribute_count.old attribute_starts.old attribute_ends.old) }
 {
     let read = read_classes(class_text);
     let d = opening_decision(

@@ -10,7 +10,7 @@ ghost use Rattle.float_bits.specs.Rows.{add_scaled};
 ghost use Rattle.float_bits.specs.Words.{float_of, plus_zero};
 ghost use Rattle.store_counts.specs.Tables.{counts_alone};
 ghost use Rattle.store_definitions.specs.Answers.{done_means, output};
-ghost use Rattle.store_definitions.specs.Lent.{entered};
+ghost use Rattle.store_definitions.specs.Lent.{held};
 ghost use Rattle.store_definitions.specs.Memory.{point_store, rows_alone};
 ghost use Rattle.store_definitions.specs.Sums.{items_decided, stored_row, point_sum_spec};
 ghost use Rattle.store_definitions.specs.WellFormed.{well_formed};
@@ -73,7 +73,7 @@ pub fn first_step(
     count: usize,
     out: &mut [f32],
 ) -> SumStep
-    ensures { state_of result out.new ≡ begun (float_of plus_zero) (well_formed (point_store s (entered store last_known_shingle reference_count location index_starts index_ends labels label_attributes label_count label_starts label_ends attributes attribute_count attribute_starts attribute_ends))) (eqb (length out.old) s.dimensions) count out.old }
+    ensures { state_of result out.new ≡ begun (float_of plus_zero) (well_formed (point_store s (held store.now last_known_shingle.now reference_count.now location.now index_starts.now index_ends.now labels.now label_attributes.now label_count.now label_starts.now label_ends.now attributes.now attribute_count.now attribute_starts.now attribute_ends.now))) (eqb (length out.old) s.dimensions) count out.old }
 {
     let checked = check(
         s,
@@ -160,7 +160,7 @@ pub fn point_sum(
     items: &[Item],
     out: &mut [f32],
 ) -> Done
-    ensures { output (done_means result) out.new ≡ point_sum_spec add_scaled (float_of plus_zero) (point_store s (entered store last_known_shingle reference_count location index_starts index_ends labels label_attributes label_count label_starts label_ends attributes attribute_count attribute_starts attribute_ends)) (weightings_of items.now) out.old }
+    ensures { output (done_means result) out.new ≡ point_sum_spec add_scaled (float_of plus_zero) (point_store s (held store.now last_known_shingle.now reference_count.now location.now index_starts.now index_ends.now labels.now label_attributes.now label_count.now label_starts.now label_ends.now attributes.now attribute_count.now attribute_starts.now attribute_ends.now)) (weightings_of items.now) out.old }
 {
     let mut step = first_step(
         s,
