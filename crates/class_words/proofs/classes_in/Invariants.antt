@@ -1,0 +1,14 @@
+-- The loop keeps that the codes passed have their classes.
+use borrow.Author.Rules.{scaled_Fits}
+use Prim.Native.Nat.{◌-◌, ◌≤◌}
+use native.Mathlib.Omega.{arith}
+use mathlib.Core.Path.{◌≡◌, refl, ◌∙◌}
+use lib.ListN.{length, take, drop, length-set}
+use Rattle.class_words.specs.WordsLaws.{small, class_read, classes_read}
+use Rattle.class_words.proofs.classes_in.Given as goal
+
+abbrev pub invariant-loop-code : goal.invariant-loop-code
+invariant-loop-code l = (l.code ≤ 24) × ((length l.classes ≡ 24) × (take l.code l.classes ≡ take l.code (drop l.at l.words)))
+
+abbrev pub decreases-loop-code : goal.decreases-loop-code
+decreases-loop-code l = 24 - l.code

@@ -1,0 +1,20 @@
+-- The loop keeps the test of the codes passed.
+use borrow.Author.Rules.{scaled_Fits}
+use Prim.Native.Nat.{◌-◌, ◌≤◌}
+use native.Mathlib.Omega.{arith}
+use mathlib.Core.Path.{◌≡◌}
+use Rattle.class_words.specs.WordsLaws.{small_below, none_small, one_small, all_small}
+use Rattle.class_words.proofs.classes_legal.Goals as goal
+
+pub loop-code-init : goal.loop-code-init
+loop-code-init c = (omega arith, none_small c.args.at c.args.words.now)
+
+pub loop-code-preserved : goal.loop-code-preserved
+loop-code-preserved c =
+    let l = c.loop-code in
+    (omega arith, one_small c.args.at c.args.words.now l.code l.ok l.invariant.1)
+
+pub returns : goal.returns
+returns c =
+    let l = c.loop-code in
+    all_small c.args.at c.args.words.now l.code l.ok l.invariant.0 c.loop-code-test.false l.invariant.1

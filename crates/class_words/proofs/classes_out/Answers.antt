@@ -1,0 +1,16 @@
+-- The loop keeps what the classes passed leave.
+use borrow.Author.Rules.{rules, scaled_Fits}
+use Prim.Native.Nat.{◌-◌, ◌≤◌}
+use native.Mathlib.Omega.{arith}
+use mathlib.Core.Path.{◌≡◌, refl, ap, ◌∙◌}
+use lib.ListN.{length, take}
+use lib.Seq.{sets, length-sets}
+use Rattle.class_words.specs.WordsLaws.{class_written, classes_written}
+use Rattle.class_words.proofs.classes_out.Goals as goal
+
+pub loop-code-preserved : goal.loop-code-preserved
+loop-code-preserved c =
+    let l = c.loop-code in
+    let a = c.args in
+    let sized : length a.classes ≡ 24 = search rules in
+    (omega arith, rw l.invariant.1 (class_written a.at a.words.now a.classes l.code (omega (arith, c.loop-code-test.true))))

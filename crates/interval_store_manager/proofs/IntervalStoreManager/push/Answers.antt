@@ -1,0 +1,9 @@
+-- One store at the stack's top in each list.
+use borrow.Author.Rules.{rules}
+use mathlib.Core.Path.{refl}
+use Rattle.interval_store_manager.specs.Calls.{pushed}
+use Rattle.interval_store_manager.proofs.IntervalStoreManager.push.Goals as goal
+
+pub returns : goal.returns
+unfolding pushed
+returns c = refl

@@ -1,0 +1,45 @@
+-- The loop's invariant: what was scanned is what the definition leaves of the places before `place`, and its quotients are carried along.
+use Rattle.std.proofs.Common.{◌≡◌, ◌-◌, ◌/◌, ◌≤◌, sym, ap, ◌∙◌, subst, ⊎_elim, arith, rules}
+use native.Mathlib.Nat.{div-mul_cancel}
+use Rattle.placement.specs.Scanned.{scanned}
+use Rattle.placement_rows.specs.OnePass.{scan, Carried}
+use Rattle.placement_rows.specs.declared.one_pass.Progress.{Progress}
+use Rattle.placement_rows.proofs.OneRun.{scan_same, none_carried}
+use Rattle.placement_rows.proofs.Scanning.{scan_first, scan_last, elements_kept, indices_kept, passes, can_take, takes}
+use Rattle.placement_rows.proofs.one_pass.scan_places.Goals as goal
+
+pub loop-place-init : goal.loop-place-init
+loop-place-init c =
+    let start = c in
+    let a = start.args in
+    (search rules, (scan_first a.shape.dimensions a.shape.base a.shape.rotation a.store.now a.location.now a.index_at.now a.start_free_region start.requires, none_carried a.shape.base))
+
+pub take_point-done-requires : goal.take_point-done-requires
+take_point-done-requires c =
+    let at = c in
+    let start = c in
+    let a = start.args in
+    let inv = at.loop-place.invariant in
+    let can = can_take a.shape.dimensions a.shape.base a.shape.rotation a.store.now a.location.now a.index_at.now a.start_free_region start.requires at.loop-place.place at.loop-place.store at.loop-place.location at.loop-place.done inv.1.0 (omega arith) c.if-index.true in
+    (sym (div-mul_cancel a.shape.base start.requires.compactable.well.shaped.whole), ((can.0, inv.1.1), can.1))
+
+pub loop-place-preserved : goal.loop-place-preserved
+loop-place-preserved c =
+    let at = c in
+    let start = c in
+    let a = start.args in
+    let inv = at.loop-place.invariant in
+    let inside = c.loop-place-test.true in
+    ⊎_elim
+    (λ w. (search rules, (scan_same w.8 w.9 w.10 ∙ takes a.shape.dimensions a.shape.base a.shape.rotation a.store.now a.location.now a.index_at.now a.start_free_region start.requires at.loop-place.place at.loop-place.store at.loop-place.location at.loop-place.done inv.1.0 inside w.0.taken w.3.last.0 w.3.last.1.0 w.3.result w.3.ensures.0, subst (Carried a.shape.base) (sym w.10) w.3.ensures.1)))
+    (λ w. (search rules, (scan_same w.1 w.2 w.3 ∙ passes a.shape.dimensions a.shape.base a.shape.rotation a.store.now a.location.now a.index_at.now a.start_free_region start.requires at.loop-place.place at.loop-place.store at.loop-place.location at.loop-place.done inv.1.0 inside w.0.left, subst (Carried a.shape.base) (sym w.3) inv.1.1)))
+    c.if-index.branch
+
+pub returns : goal.returns
+returns c =
+    let at = c in
+    let start = c in
+    let a = start.args in
+    let inv = at.loop-place.invariant in
+    let done : at.loop-place.place ≡ a.start_free_region / a.shape.base = omega arith in
+    scan_last a.shape.dimensions a.shape.base a.shape.rotation a.store.now a.location.now a.index_at.now a.start_free_region start.requires at.loop-place.store at.loop-place.location at.loop-place.done (inv.1.0 ∙ ap (scanned 0 a.shape.dimensions a.shape.base a.shape.rotation a.store.now a.location.now) done)
