@@ -1,7 +1,6 @@
 // The two tables of a hold, with one entry more or with the oldest gone.
 ghost use Rattle.std.specs.Prelude.{true, cond, [], ◌∷◌, ◌++◌, ◌≡◌, ◌≤◌, ◌<◌, length, take, drop};
 ghost use Rattle.hold_definitions.specs.Adding.{written_to};
-ghost use Rattle.store_definitions.specs.Lent.{held};
 
 fn push(list: &mut [u16], held: usize, entry: usize)
     requires { (held < length list.old) × (entry < 65536) }

@@ -5,7 +5,6 @@ ghost use Rattle.hold_definitions.specs.Memory.{point_hold, store_of};
 ghost use Rattle.hold_definitions.specs.WellFormed.{hold_well_formed};
 ghost use Rattle.store_check.specs.Figures.{FiguresOf};
 ghost use Rattle.hold_check.specs.CheckLaws.{record_holds};
-ghost use Rattle.store_definitions.specs.Lent.{held};
 
 use crate::list::list_well;
 use crate::store::store_well;

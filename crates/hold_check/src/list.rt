@@ -3,7 +3,6 @@ ghost use Rattle.std.specs.Prelude.{◌≡◌, ◌≤◌, true, ◌&&◌, length
 ghost use Rattle.hold_check.specs.ListedOnce.{listed_once, entry_listed, entry_marked, NoMarks};
 ghost use Rattle.hold_check.specs.CheckLaws.{list_holds};
 ghost use Rattle.hold_check.specs.Rising.{single_counts, ListKnown};
-ghost use Rattle.store_definitions.specs.Lent.{held};
 
 // Marks an entry that is below the limit, and says whether it has count 1 and was not marked yet.
 fn mark_entry(limit: usize, entry: usize, counts: &[u16], marks: &mut [bool]) -> bool

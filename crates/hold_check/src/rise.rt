@@ -4,7 +4,6 @@ ghost use Rattle.std.specs.Prelude.{◌≡◌, ◌+◌, ◌-◌, ◌<◌, ◌≤
 ghost use Rattle.terms.specs.Below.{every_below, count_below};
 ghost use Rattle.hold_check.specs.Rising.{Rises};
 ghost use Rattle.hold_check.specs.Runs.{turned, runs_listed, falls, falls_before, RunsRise};
-ghost use Rattle.store_definitions.specs.Lent.{held};
 
 // Whether the first `held` entries are below n.
 fn listed_below(n: u16, held: usize, list: &[u16]) -> bool

@@ -4,7 +4,6 @@ ghost use Rattle.std.specs.Prelude.{◌≡◌, ◌+◌, ◌-◌, ◌*◌, ◌<�
 ghost use Rattle.interval_store_manager.specs.Intervals.{inside};
 ghost use Rattle.store_check.specs.PointsTest.{PointsReady};
 ghost use Rattle.hold_check.specs.Steady.{pair_apart, PairOf, pair_size, entry_held, entries_held, Steady};
-ghost use Rattle.store_definitions.specs.Lent.{held};
 
 use crate::rise::runs_rise;
 use interval_store_manager::lent_enough;

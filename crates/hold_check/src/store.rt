@@ -10,7 +10,6 @@ ghost use Rattle.store_check.specs.PointsTest.{points_test, PointsReady};
 
 ghost use Rattle.hold_check.specs.Rising.{single_counts, ListKnown};
 ghost use Rattle.store_check.specs.Tables.{tables};
-ghost use Rattle.store_definitions.specs.Lent.{held};
 
 use crate::list::counts_single;
 use crate::rise::live_rise;

@@ -1,7 +1,6 @@
 // A hold's record as a lent slice of words: its store's, then its width and how many points are held.
 ghost use Rattle.std.specs.Prelude.{◌≡◌, ◌≤◌, length};
 ghost use Rattle.point_store_c.specs.HoldRecords.{tail_out, hold_out, hold_in, hold_recorded};
-ghost use Rattle.store_definitions.specs.Lent.{held};
 
 use crate::record::{record_write, store_in, store_out};
 use hold_definitions::Hold;
