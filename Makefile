@@ -10,7 +10,7 @@ version := $(shell cat VERSION)
 
 LIBRARY = target/staticlib/libpoint_store_c.a
 # point_store_c and all that it is built on
-CRATES := $(shell awk -F: '!/^\#/ {uses[$$1] = $$2} \
+CRATES := $(shell awk -F: '!/^\#/ {split($$1, said, " "); uses[said[1]] = $$2} \
 	function reach(c, n, i, u) {if (c in seen || !(c in uses)) return; seen[c] = 1; n = split(uses[c], u, " "); \
 	for (i = 1; i <= n; i++) reach(u[i])} END {reach("point_store_c"); for (c in seen) print c}' crates.txt | sort)
 SOURCES := crates.txt $(shell find $(CRATES:%=crates/%) -name '*.rt' -o -name '*.antt' | sort)
@@ -32,9 +32,9 @@ CARGO = env -u MAKEFLAGS -u MFLAGS cargo
 all: library
 library: $(LIBRARY)
 
-# rt leaves an archive that would come out the same as it was, so it is touched
+# proves what is not proved yet
 $(LIBRARY): $(SOURCES)
-	rt staticlib point_store_c
+	tools/build_library
 	touch $@
 
 check: check-c check-rust

@@ -1,4 +1,4 @@
-//! Links the static library that `rt staticlib point_store_c` writes.
+//! Links the static library that `tools/build_library` writes.
 use std::env;
 use std::path::PathBuf;
 

@@ -9,6 +9,7 @@ ghost use Rattle.store_check.specs.Figures.{FiguresOf};
 ghost use Rattle.store_check.specs.PointsTest.{points_test, PointsReady};
 
 ghost use Rattle.hold_check.specs.Rising.{single_counts, ListKnown};
+ghost use Rattle.store_check.specs.Tables.{tables};
 
 use crate::list::counts_single;
 use crate::rise::live_rise;

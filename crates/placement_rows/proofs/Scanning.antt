@@ -93,9 +93,9 @@ module _ (dims base : ℕ) (rotation : Bool) (elements location table : List ℕ
         unfolding run_of
         copyable = go (leb (q * base) (at q).read) refl
           where
-            of : (zeros from : ℕ) → (at q).free + zeros ≤ from → from ≤ q * base + dims → dims ≤ (at q).free + zeros + (q * base + dims - from)
-                → Copyable dims base (run_from dims base q (at q).free zeros from) (q * base + dims) i (at q).free (length (at q).elements) (length (at q).location)
-            of zeros from a b c =
+            of : (n from : ℕ) → (at q).free + n ≤ from → from ≤ q * base + dims → dims ≤ (at q).free + n + (q * base + dims - from)
+                → Copyable dims base (run_from dims base q (at q).free n from) (q * base + dims) i (at q).free (length (at q).elements) (length (at q).location)
+            of n from a b c =
                 record {
                   behind = a;
                   forward = b;

@@ -6,6 +6,7 @@ ghost use Rattle.std.specs.Prelude.{true, ◌≡◌};
 ghost use Rattle.store_definitions.specs.Memory.{point_store};
 ghost use Rattle.store_definitions.specs.WellFormed.{well_formed};
 ghost use Rattle.store_check.specs.Figures.{FiguresOf};
+ghost use Rattle.store_check.specs.Tables.{tables};
 
 
 mod bounds;

@@ -8,4 +8,8 @@ index_places-requires c =
     let start = c in
     let a = start.args in
     let pre = start.requires in
-    ((pre.compactable.few, pre.small), (pre.clear, places_inside a.shape.dimensions a.shape.base a.location.now a.start_free_region (length a.store.now) a.index_at.now pre))
+    record {
+      few = (pre.compactable.few, pre.small);
+      none = pre.clear;
+      inside = places_inside a.shape.dimensions a.shape.base a.location.now a.start_free_region (length a.store.now) a.index_at.now pre;
+    }

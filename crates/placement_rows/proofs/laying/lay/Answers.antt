@@ -15,7 +15,7 @@ unfolding laid_as laid_free written_count
 returns-then-joined c =
     let a = c.args in
     let pre = c.requires in
-    rw c.if-joined.true (c.copy_from.ensures ∙ laid_joined a.dimensions a.base a.start_free_region a.store.now a.row.now pre.whole pre.wide, (refl, refl))
+    rw c.if-joined.true (record { elements = c.copy_from.ensures ∙ laid_joined a.dimensions a.base a.start_free_region a.store.now a.row.now pre.whole pre.wide; answer = (refl, refl) })
 
 pub copy_from-requires-2 : goal.copy_from-requires-2
 unfolding written_count
@@ -28,4 +28,4 @@ unfolding laid_as laid_free written_count
 returns c =
     let a = c.args in
     let pre = c.requires in
-    rw c.if-joined.false (c.copy_from-2.ensures ∙ laid_whole a.dimensions a.base a.start_free_region a.store.now a.row.now pre.whole, (refl, refl))
+    rw c.if-joined.false (record { elements = c.copy_from-2.ensures ∙ laid_whole a.dimensions a.base a.start_free_region a.store.now a.row.now pre.whole; answer = (refl, refl) })

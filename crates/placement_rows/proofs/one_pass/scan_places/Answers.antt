@@ -1,5 +1,5 @@
 -- The loop's invariant: what was scanned is what the definition leaves of the places before `place`, and its quotients are carried along.
-use Rattle.std.proofs.Common.{◌≡◌, ◌-◌, ◌/◌, ◌≤◌, sym, ap, ◌∙◌, subst, ⊎_elim, arith, rules}
+use Rattle.std.proofs.Common.{◌≡◌, ◌-◌, ◌/◌, ◌≤◌, sym, ap, ◌∙◌, subst, arith, rules}
 use native.Mathlib.Nat.{div-mul_cancel}
 use Rattle.placement.proofs.ScannedLaws.{scanned}
 use Rattle.placement_rows.specs.OnePass.{scan, Carried}
@@ -7,6 +7,7 @@ use Rattle.placement_rows.specs.declared.one_pass.Progress.{Progress}
 use Rattle.placement_rows.proofs.OneRun.{scan_same, none_carried}
 use Rattle.placement_rows.proofs.Scanning.{scan_first, scan_last, elements_kept, indices_kept, passes, can_take, takes}
 use Rattle.placement_rows.proofs.one_pass.scan_places.Goals as goal
+use Rattle.placement_rows.proofs.one_pass.scan_places.Goals.{then-index, else-index}
 
 pub loop-place-init : goal.loop-place-init
 loop-place-init c =
@@ -30,10 +31,13 @@ loop-place-preserved c =
     let a = start.args in
     let inv = at.loop-place.invariant in
     let inside = c.loop-place-test.true in
-    ⊎_elim
-    (λ w. (search rules, (scan_same w.8 w.9 w.10 ∙ takes a.shape.dimensions a.shape.base a.shape.rotation a.store.now a.location.now a.index_at.now a.start_free_region start.requires at.loop-place.place at.loop-place.store at.loop-place.location at.loop-place.done inv.1.0 inside w.0.taken w.3.last.0 w.3.last.1.0 w.3.result w.3.ensures.0, subst (Carried a.shape.base) (sym w.10) w.3.ensures.1)))
-    (λ w. (search rules, (scan_same w.1 w.2 w.3 ∙ passes a.shape.dimensions a.shape.base a.shape.rotation a.store.now a.location.now a.index_at.now a.start_free_region start.requires at.loop-place.place at.loop-place.store at.loop-place.location at.loop-place.done inv.1.0 inside w.0.left, subst (Carried a.shape.base) (sym w.3) inv.1.1)))
-    c.if-index.branch
+    elim c.if-index.branch [
+      then-index w ↦
+        let t = w.take_point-done in
+        (search rules, (scan_same w.store-is w.location-is w.done-is ∙ takes a.shape.dimensions a.shape.base a.shape.rotation a.store.now a.location.now a.index_at.now a.start_free_region start.requires at.loop-place.place at.loop-place.store at.loop-place.location at.loop-place.done inv.1.0 inside w.if-index.true t.new.store t.new.location t.result t.ensures.0, subst (Carried a.shape.base) (sym w.done-is) t.ensures.1))
+    | else-index w ↦
+        (search rules, (scan_same w.store-is w.location-is w.done-is ∙ passes a.shape.dimensions a.shape.base a.shape.rotation a.store.now a.location.now a.index_at.now a.start_free_region start.requires at.loop-place.place at.loop-place.store at.loop-place.location at.loop-place.done inv.1.0 inside w.if-index.false, subst (Carried a.shape.base) (sym w.done-is) inv.1.1))
+    ]
 
 pub returns : goal.returns
 returns c =

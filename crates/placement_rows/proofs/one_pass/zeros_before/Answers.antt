@@ -6,4 +6,4 @@ use Rattle.placement_rows.proofs.one_pass.zeros_before.Goals as goal
 pub returns : goal.returns
 returns c =
     let a = c.args in
-    wrapped a.dimensions a.free a.start c.wrapping_sub_usize-difference.result c.wrapping_add_usize.result (omega arith) (omega arith) (omega arith) c.wrapping_sub_usize-difference.ensures c.wrapping_add_usize.ensures
+    wrapped a.dimensions a.free a.start c.wrapping_sub_usize-difference.result c.wrapping_add_usize.result (omega arith) (omega arith) (omega arith) c.wrapping_sub_usize-difference.ensures.value c.wrapping_add_usize.ensures.value

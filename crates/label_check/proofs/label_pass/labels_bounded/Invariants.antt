@@ -1,0 +1,15 @@
+-- The invariant: what holds of the labels below i.
+use Prim.Native.Nat.{◌≤◌, ◌-◌}
+use native.Mathlib.Omega.{arith}
+use mathlib.Core.Path.{◌≡◌, refl}
+use borrow.Author.Rules.{rules, scaled_Fits}
+use Rattle.terms.specs.Below.{every_below}
+use Rattle.label_check.specs.LabelPass.{label_bounded}
+use Rattle.label_check.specs.SlotPass.{every_next}
+use Rattle.label_check.proofs.label_pass.labels_bounded.Given as goal
+
+abbrev pub invariant-loop-i : goal.invariant-loop-i
+invariant-loop-i l = (l.i ≤ l.capacity) × (l.ok ≡ every_below l.i (λ k. label_bounded l.capacity l.labels l.label_attributes l.label_count l.marks k))
+
+abbrev pub decreases-loop-i : goal.decreases-loop-i
+decreases-loop-i l = l.capacity - l.i

@@ -1,0 +1,7 @@
+-- New accepts what may be opened, so that its refusal is never met.
+use borrow.Author.Rules.{rules}
+use Rattle.label_opening.specs.OpeningLaws.{not_refused}
+use Rattle.label_opening.proofs.open_manager.Goals as goal
+
+pub returns-in-Refused : goal.returns-in-Refused
+returns-in-Refused c = not_refused c.args.capacity c.args.starts.now c.args.ends.now _ _ _ c.requires (rw c.in-Refused.is at c.new-answer.ensures)

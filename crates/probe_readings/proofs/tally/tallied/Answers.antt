@@ -1,0 +1,35 @@
+-- The invariant: the first k tallies are raised.
+use Prim.Native.Nat.{◌≤◌, ◌+◌, ◌-◌}
+use native.Mathlib.Omega.{arith}
+use mathlib.Core.Path.{◌≡◌, refl, sym, ap, ◌∙◌}
+use lib.ListN.{length, get_or, take, length-set}
+use lib.Dec.{eqb}
+use borrow.Author.Rules.{rules}
+use Rattle.terms.specs.Below.{one_le}
+use Rattle.probe_readings.specs.Kinds.{tallied_kinds}
+use Rattle.probe_readings.specs.Entries.{written_more, written_all, tallied_entry, tallied_long}
+use Rattle.probe_readings.proofs.tally.tallied.Goals as goal
+
+pub loop-k-preserved : goal.loop-k-preserved
+loop-k-preserved c =
+    let s = c in
+    let a = s.args in
+    let l = c.loop-k in
+    let n : length a.tallies ≡ 8 = search rules in
+    let below = c.loop-k-test.true in (
+      omega (arith, below),
+      (
+        length-set l.counted l.k _ ∙ l.invariant.1.0,
+        written_more (tallied_kinds a.kinds.now a.tallies) l.counted l.k _ (omega (arith, below, n, tallied_long a.kinds.now a.tallies)) (omega (arith, below, l.invariant.1.0))
+            (ap (λ x. get_or a.tallies l.k 0 + x) c.estimate_of.ensures ∙ sym (tallied_entry a.kinds.now a.tallies l.k (omega (arith, below, s.requires.0)) (omega (arith, below, n))))
+            l.invariant.1.1,
+      ),
+    )
+
+pub returns : goal.returns
+returns c =
+    let a = c.args in
+    let l = c.loop-k in
+    let n : length a.tallies ≡ 8 = search rules in
+    let past = c.loop-k-test.false in
+    written_all (tallied_kinds a.kinds.now a.tallies) l.counted l.k (omega (arith, past, n, tallied_long a.kinds.now a.tallies)) (omega (arith, past, l.invariant.1.0)) l.invariant.1.1

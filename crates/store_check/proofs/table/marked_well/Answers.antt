@@ -1,0 +1,37 @@
+-- Each way out is one of the laws of `TableLaws`.
+use borrow.Author.Rules.{rules}
+use native.Mathlib.Omega.{arith}
+use Rattle.store_laws.specs.BoundsLaws.{in_bounds, base_some}
+use mathlib.Core.Path.{sym, ◌∙◌}
+use Rattle.store_check.proofs.TableLaws.{all_or_live, entries_pass, entries_fail, manager_fails}
+use Rattle.store_check.proofs.table.marked_well.Goals as goal
+
+pub nonzero_div-base : goal.nonzero_div-base
+nonzero_div-base c = let s = c.args.s in (in_bounds s.dimensions s.shingle_size s.capacity c.requires.0.bounds).shingle_least
+
+pub place_limit-limit-requires : goal.place_limit-limit-requires
+place_limit-limit-requires c =
+    let s = c.args.s in
+    (base_some s.dimensions s.shingle_size s.capacity (in_bounds s.dimensions s.shingle_size s.capacity c.requires.0.bounds), c.requires.0.free_most)
+
+pub overflow_sub-result : goal.overflow_sub-result
+overflow_sub-result c =
+    let live =
+    let a = c.args in
+    all_or_live a.s a.reference_count.now a.location.now a.index_starts.now a.index_ends.now _ c.requires.0 _ _ _ c.mark_free-checked.ensures c.place_limit-limit.ensures c.if-managed.true (sym c.entries_well.ensures ∙ c.if-entries_well.true) in
+    omega (arith, live)
+
+pub returns-then-entries_well : goal.returns-then-entries_well
+returns-then-entries_well c =
+    let a = c.args in
+    entries_pass a.s a.reference_count.now a.location.now a.index_starts.now a.index_ends.now _ c.requires.0 _ _ _ c.mark_free-checked.ensures c.place_limit-limit.ensures c.if-managed.true (sym c.entries_well.ensures ∙ c.if-entries_well.true)
+
+pub returns-else-entries_well : goal.returns-else-entries_well
+returns-else-entries_well c =
+    let a = c.args in
+    entries_fail a.s a.reference_count.now a.location.now a.index_starts.now a.index_ends.now _ c.requires.0 _ _ _ c.mark_free-checked.ensures c.place_limit-limit.ensures c.if-managed.true (sym c.entries_well.ensures ∙ c.if-entries_well.false)
+
+pub returns-else-managed : goal.returns-else-managed
+returns-else-managed c =
+    let a = c.args in
+    manager_fails a.s a.reference_count.now a.location.now a.index_starts.now a.index_ends.now _ c.requires.0 _ _ _ c.mark_free-checked.ensures c.place_limit-limit.ensures c.if-managed.false
