@@ -1,6 +1,5 @@
 pub mod Cases
 pub mod Marks
-pub mod Reading
 pub mod Reasons
 pub mod Table
 pub mod TableLaws

@@ -3,8 +3,6 @@ use Rattle.std.specs.Prelude.{ℕ, ◌+◌, ◌≤◌, ◌<◌, Bool, true, ◌&
 use Rattle.std.proofs.Common.{leb-true, eqb-true}
 use Rattle.terms.specs.Below.{both, every_below, every_at}
 use Rattle.class_table.specs.Table.{class_of, some_below, largest_below, table_allowed}
-use Rattle.class_table.specs.Text.{table_text, accepted, table_read}
-use Rattle.class_table.specs.TextLaws.{text_read}
 
 -- 'codes 0 to 23: 0,0,0,1,1,2,2,2,3,3,4,4,5,5,5,6,6,6,7,7,8,8,9,9'
 unfoldable pub reason_classes : List ℕ
@@ -47,7 +45,3 @@ reason_rule = rule reason_classes refl
 pub reasons_allowed : table_allowed reason_classes ≡ true
 unfolding reason_classes table_allowed every_below some_below largest_below
 reasons_allowed = refl
-
--- the built-in text is read as that table
-pub reasons_read : table_read (table_text reason_classes) ≡ accepted reason_classes
-reasons_read = text_read reason_classes reasons_allowed

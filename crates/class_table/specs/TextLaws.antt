@@ -4,10 +4,10 @@ use Rattle.std.proofs.Common.{arith, append_assoc, append-nil, sym, ap, ◌∙�
 use Rattle.std.proofs.lemmas.Bool.{false≢true}
 use Rattle.terms.specs.Below.{every_below, both, every_at}
 use Rattle.decimal.specs.Field.{field, same_bytes}
-use Rattle.decimal.specs.FieldLaws.{length_field}
+use Rattle.decimal.proofs.FieldLaws.{length_field}
 use Rattle.decimal.specs.Bytes.{same_refl, same_equal}
 use Rattle.decimal.specs.Lines.{fields, line, lines}
-use Rattle.decimal.specs.LinesLaws.{length_line, field_at}
+use Rattle.decimal.proofs.LinesLaws.{length_line, field_at}
 use Rattle.class_table.specs.Table.{class_of, occurs, largest, table_allowed}
 use Rattle.class_table.specs.Text.{numbered, table_text, line_class, classes_of, accepted, turned_down, table_read}
 

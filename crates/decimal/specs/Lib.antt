@@ -1,9 +1,5 @@
 pub mod Bytes
 pub mod Cases
 pub mod Field
-pub mod FieldLaws
 pub mod Lines
-pub mod LinesLaws
-pub mod ReaderTurns
 pub mod Segments
-pub mod WriterTurns

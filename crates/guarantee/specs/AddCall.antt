@@ -13,7 +13,7 @@ use Rattle.interval_store_manager.specs.Calls.{Decided, go, refuse, changed}
 use Rattle.placement.specs.Copying.{turn, turned, copied}
 use Rattle.placement.specs.Growth.{grown, grown_within_lem}
 use Rattle.placement.specs.Laying.{place_of}
-use Rattle.placement.specs.LayingLaws.{copy_laid, copy_before}
+use Rattle.placement.proofs.LayingLaws.{copy_laid, copy_before}
 use Rattle.placement.specs.Row.{row_to_lay}
 use Rattle.labels.specs.Counted.{Counted, counted, next_index}
 use Rattle.labels.specs.Decisions.{code_decided, room_decided}

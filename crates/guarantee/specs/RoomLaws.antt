@@ -7,7 +7,7 @@ use Rattle.std.proofs.Math.Path.{refl, ap}
 use Rattle.std.proofs.Math.ListN.{drop, get_or-append}
 use Rattle.placement.specs.AlignmentLaws.{point_room}
 use Rattle.placement.specs.Compaction.{Layout, live_count, compacted}
-use Rattle.placement.specs.CompactionLaws.{CompactionKeeps, compaction_keeps, copy_kept}
+use Rattle.placement.proofs.CompactionLaws.{CompactionKeeps, compaction_keeps, copy_kept}
 use Rattle.placement.specs.Copying.{copied}
 use Rattle.placement.specs.Growth.{grown}
 use Rattle.placement.specs.Laying.{written_count}

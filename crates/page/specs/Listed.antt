@@ -4,7 +4,7 @@ use Rattle.std.proofs.Math.Decide.{dec_lt, ℕ_discrete}
 use Rattle.std.proofs.Common.{suc-mul, zero-mul, arith, append-nil, sym, ap, ap₂, ◌∙◌, length-append, eq-eqb, ne_eqb, lt-ltb, le-ltb}
 use Rattle.terms.specs.Below.{sum_below, count_below, one}
 use Rattle.decimal.specs.Lines.{line, lines, Fit, RowsFit}
-use Rattle.decimal.specs.LinesLaws.{length_line, lines_append}
+use Rattle.decimal.proofs.LinesLaws.{length_line, lines_append}
 
 unfoldable pub listed : ℕ → (ℕ → Bool) → (ℕ → List ℕ) → List (List ℕ)
 listed zero test cells = []

@@ -7,7 +7,7 @@ use Rattle.std.proofs.Math.Path.{sym, ap}
 use Rattle.terms.specs.Below.{count_below}
 use Rattle.labels.specs.Counted.{live_number}
 use Rattle.decimal.specs.Lines.{lines, Fit, RowsFit}
-use Rattle.decimal.specs.LinesLaws.{lines_injective}
+use Rattle.decimal.proofs.LinesLaws.{lines_injective}
 use Rattle.store_definitions.specs.Decisions.{live}
 use Rattle.store_definitions.specs.Memory.{PointStore}
 use Rattle.store_definitions.specs.Parts.{table_length, point_table}

@@ -5,7 +5,7 @@ use borrow.Author.Tests.{lt-ltb, le-ltb, ne_eqb}
 use Rattle.terms.specs.Below.{sum_below, count_below, one, sum_same, count_le}
 use Rattle.terms.specs.Entries.{any_default}
 use Rattle.decimal.specs.Lines.{line, lines}
-use Rattle.decimal.specs.LinesLaws.{length_line}
+use Rattle.decimal.proofs.LinesLaws.{length_line}
 use Rattle.decimal.specs.Segments.{put, put_none, put_put}
 use Rattle.store_definitions.specs.Answers.{is, refused, output}
 use Rattle.store_definitions.specs.Decisions.{form_decided}

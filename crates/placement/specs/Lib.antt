@@ -3,7 +3,6 @@ pub mod Pieces
 pub mod Overlap
 pub mod Laying
 pub mod Copying
-pub mod CopyingLaws
 pub mod Growth
 pub mod Alignment
 pub mod AlignmentLaws
@@ -12,13 +11,6 @@ pub mod Steps
 pub mod Places
 pub mod Order
 pub mod MovedLaws
-pub mod StepsLaw
-pub mod ProgressLaws
-pub mod Scan
-pub mod CompactionLaws
-pub mod LayingLaws
 pub mod InPlace
 pub mod Scanned
-pub mod NoLater
-pub mod EachStep
 pub mod Windows

@@ -3,9 +3,10 @@ use Rattle.std.proofs.Common.{◌≡◌, ℕ, suc, ◌+◌, ◌-◌, ◌*◌, �
 use Rattle.placement.specs.Alignment.{zeros_before}
 use Rattle.placement.specs.Compaction.{compacted, live_below}
 use Rattle.placement.specs.Places.{Live, WellPlaced}
-use Rattle.placement.specs.ProgressLaws.{Sound}
-use Rattle.placement.specs.Scan.{well_sound}
-use Rattle.placement.specs.Scanned.{ScanState, scanned, shown, advanced, Bounded, scanned_first, scanned_dead, scanned_bounded, scanned_last, scanned_joins, scanned_starts, met_inside, joins_within, starts_behind}
+use Rattle.placement.proofs.ProgressLaws.{Sound}
+use Rattle.placement.proofs.Scan.{well_sound}
+use Rattle.placement.specs.Scanned.{ScanState, shown, advanced}
+use Rattle.placement.proofs.ScannedLaws.{scanned, Bounded, scanned_first, scanned_dead, scanned_bounded, scanned_last, scanned_joins, scanned_starts, met_inside, joins_within, starts_behind}
 use Rattle.placement.specs.Steps.{steps}
 use Rattle.placement_rows.specs.Compactable.{layout}
 use Rattle.placement_rows.specs.IndexTable.{found_none, found_live, found_at}

@@ -8,9 +8,10 @@ use mathlib.Core.List.{List, ◌++◌}
 use Rattle.std.proofs.Math.ListN.{length, take, drop, length-map, get_or-append}
 use Rattle.std.proofs.Math.Seq.{length-take-le, take_at}
 use Rattle.placement.specs.Compaction.{Layout, settled, compacted}
-use Rattle.placement.specs.EachStep.{reached, each_step}
-use Rattle.placement.specs.NoLater.{no_later, AsCompacted}
-use Rattle.placement.specs.Scanned.{ScanState, scanned}
+use Rattle.placement.proofs.EachStep.{reached, each_step}
+use Rattle.placement.proofs.NoLater.{no_later, AsCompacted}
+use Rattle.placement.specs.Scanned.{ScanState}
+use Rattle.placement.proofs.ScannedLaws.{scanned}
 use Rattle.store_definitions.specs.declared.Store.{Store}
 use Rattle.store_definitions.specs.Memory.{PointStore}
 use Rattle.store_definitions.specs.Parts.{base_of, table_length, Rows}

@@ -7,7 +7,7 @@ use Rattle.std.proofs.Math.ListN.{take, set}
 use Rattle.std.proofs.Math.Seq.{take-set-lt}
 use borrow.Author.Tests.{ltb-false}
 use Rattle.placement.specs.Laying.{written_count, laid_as, laid_elements, laid_free, place_of}
-use Rattle.placement.specs.LayingLaws.{LayingKeeps, laying_keeps, well_laid, distinct_laid}
+use Rattle.placement.proofs.LayingLaws.{LayingKeeps, laying_keeps, well_laid, distinct_laid}
 use Rattle.store_definitions.specs.declared.Store.{Store}
 use Rattle.store_definitions.specs.Parts.{base_of, Rows}
 use Rattle.store_definitions.specs.Adding.{joins, overflows, laid_rows, laid_how}

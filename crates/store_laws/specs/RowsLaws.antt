@@ -8,7 +8,7 @@ use Rattle.std.proofs.Math.ListN.{length-drop, length-replicate, get_or-append}
 use Rattle.std.proofs.Math.Seq.{length-take-le}
 use borrow.Author.Tests.{eq-eqb, ne_eqb}
 use Rattle.placement.specs.Compaction.{Layout, compacted}
-use Rattle.placement.specs.CompactionLaws.{CompactionKeeps, compaction_keeps, well_after, distinct_after}
+use Rattle.placement.proofs.CompactionLaws.{CompactionKeeps, compaction_keeps, well_after, distinct_after}
 use Rattle.placement.specs.Growth.{grown, grown_within_lem}
 use Rattle.store_definitions.specs.declared.Store.{Store}
 use Rattle.store_definitions.specs.Memory.{PointStore}

@@ -5,7 +5,7 @@ use mathlib.Core.Path.{◌≡◌, sym, ◌∙◌}
 use native.Mathlib.Omega.{arith}
 use lib.ListN.{drop, length-drop}
 use lib.Seq.{length-take-le}
-use Rattle.decimal.specs.LinesLaws.{length_line}
+use Rattle.decimal.proofs.LinesLaws.{length_line}
 use borrow.Author.Rules.{rules}
 use Rattle.class_table.proofs.read.is_class_line.Goals as goal
 

@@ -7,7 +7,7 @@ use lib.ListN.{length, length-set}
 use borrow.Author.Tests.{not-true, not-false}
 use Rattle.class_table.specs.Table.{table_allowed}
 use Rattle.class_table.specs.Text.{classes_of}
-use Rattle.class_table.specs.Reading.{left_same, filled, wrong_length, large_class, line_right, line_wrong, class_filled, table_read_lem}
+use Rattle.class_table.proofs.Reading.{left_same, filled, wrong_length, large_class, line_right, line_wrong, class_filled, table_read_lem}
 use Rattle.class_table.proofs.read.read_classes.Goals as goal
 
 pub returns-then-text-ne216 : goal.returns-then-text-ne216

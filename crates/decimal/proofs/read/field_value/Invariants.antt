@@ -5,7 +5,7 @@ use mathlib.Core.Path.{◌≡◌, refl, ◌∙◌}
 use native.Mathlib.Omega.{arith}
 use lib.ListN.{length, drop, get_or}
 use Rattle.decimal.specs.Field.{value_from, value}
-use Rattle.decimal.specs.ReaderTurns.{value_turn, value_end, below_turn, value_fits}
+use Rattle.decimal.proofs.ReaderTurns.{value_turn, value_end, below_turn, value_fits}
 use Rattle.decimal.proofs.read.field_value.Given as goal
 
 abbrev pub invariant-loop-i : goal.invariant-loop-i

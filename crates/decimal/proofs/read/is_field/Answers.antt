@@ -6,7 +6,7 @@ use native.Mathlib.Omega.{arith}
 use lib.ListN.{length, take}
 use borrow.Author.Tests.{eq-eqb, ne_eqb}
 use Rattle.decimal.specs.Field.{columns, same_bytes, is_field}
-use Rattle.decimal.specs.ReaderTurns.{none_compared, last_compared, column_compared, all_compared}
+use Rattle.decimal.proofs.ReaderTurns.{none_compared, last_compared, column_compared, all_compared}
 use Rattle.decimal.proofs.read.is_field.Goals as goal
 
 pub returns-then-width-eq0 : goal.returns-then-width-eq0

@@ -8,7 +8,7 @@ use lib.ListN.{length, drop}
 use borrow.Author.Tests.{not-true, not-false}
 use Rattle.decimal.specs.Field.{same_bytes}
 use Rattle.decimal.specs.Lines.{line}
-use Rattle.decimal.specs.ReaderTurns.{Begins, begins_next, begins_room, part_compared, end_room, feed_compared}
+use Rattle.decimal.proofs.ReaderTurns.{Begins, begins_next, begins_room, part_compared, end_room, feed_compared}
 use Rattle.decimal.proofs.read.is_line.Given as goal
 
 abbrev pub invariant-loop-k : goal.invariant-loop-k

@@ -1,6 +1,6 @@
 -- Accepted where writing the value makes the field.
 use mathlib.Core.Path.{sym, ◌∙◌}
-use Rattle.decimal.specs.ReaderTurns.{accepted, turned_down}
+use Rattle.decimal.proofs.ReaderTurns.{accepted, turned_down}
 use borrow.Author.Rules.{rules}
 use Rattle.decimal.proofs.read.read_field.Goals as goal
 

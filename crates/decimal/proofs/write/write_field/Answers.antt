@@ -6,7 +6,7 @@ use mathlib.Core.Path.{◌≡◌, ◌∙◌}
 use native.Mathlib.Omega.{arith}
 use lib.ListN.{length, drop, length-set}
 use Rattle.decimal.specs.Field.{columns, field}
-use Rattle.decimal.specs.WriterTurns.{field_none, last_written, column_written, columns_none}
+use Rattle.decimal.proofs.WriterTurns.{field_none, last_written, column_written, columns_none}
 use Rattle.decimal.proofs.write.write_field.Goals as goal
 
 pub returns-then-width-eq0 : goal.returns-then-width-eq0

@@ -1,7 +1,7 @@
 -- A line of three fields of six columns has 19 bytes.
 use mathlib.Core.List.{[], ◌∷◌}
 use native.Mathlib.Omega.{arith}
-use Rattle.decimal.specs.LinesLaws.{length_line}
+use Rattle.decimal.proofs.LinesLaws.{length_line}
 use borrow.Author.Rules.{rules}
 use Rattle.page.proofs.lines.put_point.Goals as goal
 

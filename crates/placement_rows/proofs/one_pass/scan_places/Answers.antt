@@ -1,7 +1,7 @@
 -- The loop's invariant: what was scanned is what the definition leaves of the places before `place`, and its quotients are carried along.
 use Rattle.std.proofs.Common.{◌≡◌, ◌-◌, ◌/◌, ◌≤◌, sym, ap, ◌∙◌, subst, arith, rules}
 use native.Mathlib.Nat.{div-mul_cancel}
-use Rattle.placement.specs.Scanned.{scanned}
+use Rattle.placement.proofs.ScannedLaws.{scanned}
 use Rattle.placement_rows.specs.OnePass.{scan, Carried}
 use Rattle.placement_rows.specs.declared.one_pass.Progress.{Progress}
 use Rattle.placement_rows.proofs.OneRun.{scan_same, none_carried}

@@ -15,10 +15,10 @@ use Rattle.placement.specs.Copying.{turn, copied}
 use Rattle.placement.specs.Compaction.{Written, Layout, holds, live_below, live_count, moved, settled, compacted}
 use Rattle.placement.specs.MovedLaws.{olds, moved_each, unmoved, moved_rank}
 use Rattle.placement.specs.Places.{Live, WellPlaced, Distinct, place_below}
-use Rattle.placement.specs.ProgressLaws.{PointKept, Sound}
-use Rattle.placement.specs.Scan.{holds_at, live_rising, live_met, live_count_lem, well_sound}
+use Rattle.placement.proofs.ProgressLaws.{PointKept, Sound}
+use Rattle.placement.proofs.Scan.{holds_at, live_rising, live_met, live_count_lem, well_sound}
 use Rattle.placement.specs.Steps.{steps}
-use Rattle.placement.specs.StepsLaw.{steps_are_blocks}
+use Rattle.placement.proofs.StepsLaw.{steps_are_blocks}
 
 -- what compaction keeps
 pub record CompactionKeeps {E : Type 0} (dims base : ℕ) (rotation : Bool) (location : List ℕ) (free : ℕ) (elements : List E) (after : Layout E) : Type 0 where

@@ -3,7 +3,7 @@ use Rattle.std.specs.Prelude.{ℕ, suc, ◌+◌, ◌*◌, ◌^◌, ◌≤◌, �
 use Rattle.std.proofs.Common.{suc-mul, zero-mul, arith, append_assoc, sym, ap, ap₂, ◌∙◌, length-append, take_at, drop_at, drop-cons}
 use Rattle.std.proofs.Math.Seq.{split_at}
 use Rattle.decimal.specs.Field.{field, value}
-use Rattle.decimal.specs.FieldLaws.{length_field, value_field, field_injective}
+use Rattle.decimal.proofs.FieldLaws.{length_field, value_field, field_injective}
 use Rattle.decimal.specs.Lines.{fields, line, lines, Fit, RowsFit}
 
 -- ---- lengths

@@ -12,7 +12,7 @@ use Rattle.std.proofs.Math.Decide.{ℕ_discrete}
 use Rattle.placement.specs.Compaction.{nothing_written, holds, live_below, live_count}
 use Rattle.placement.specs.Order.{Each, Rising, each_map, each_last, rising_last}
 use Rattle.placement.specs.Places.{Shaped, WellPlaced}
-use Rattle.placement.specs.ProgressLaws.{Sound, step_sound}
+use Rattle.placement.proofs.ProgressLaws.{Sound, step_sound}
 use Rattle.placement.specs.Steps.{Progress, step, steps_from, steps}
 
 -- a table holds what stands in it

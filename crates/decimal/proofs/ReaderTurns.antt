@@ -11,10 +11,10 @@ use Rattle.std.proofs.Math.ListN.{length, drop_of_length-le}
 use Rattle.std.proofs.Math.Seq.{drop-cons, take-length, length-take-le, drop-drop}
 use Rattle.terms.specs.Rows.{all_equal}
 use Rattle.decimal.specs.Field.{last_digit, column, columns, field, digit, value_from, value, same_bytes, is_field, field_read}
-use Rattle.decimal.specs.FieldLaws.{length_columns, length_field, digit_small}
+use Rattle.decimal.proofs.FieldLaws.{length_columns, length_field, digit_small}
 use Rattle.decimal.specs.Bytes.{same_append, same_snoc}
 use Rattle.decimal.specs.Lines.{fields, line}
-use Rattle.decimal.specs.LinesLaws.{line_from}
+use Rattle.decimal.proofs.LinesLaws.{line_from}
 use Rattle.decimal.specs.declared.FieldRead.TheVariants.{Number, NoField}
 
 -- ---- the value

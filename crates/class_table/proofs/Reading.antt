@@ -13,7 +13,7 @@ use Rattle.terms.specs.Below.{fails}
 use Rattle.decimal.specs.Field.{same_bytes}
 use Rattle.decimal.specs.Bytes.{same_append, same_equal}
 use Rattle.decimal.specs.Lines.{line, lines}
-use Rattle.decimal.specs.LinesLaws.{length_line}
+use Rattle.decimal.proofs.LinesLaws.{length_line}
 use Rattle.class_table.specs.Table.{table_allowed}
 use Rattle.class_table.specs.Marks.{class_too_large}
 use Rattle.class_table.specs.Text.{numbered, table_text, line_class, classes_of, accepted, turned_down, table_read}

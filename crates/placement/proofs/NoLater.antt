@@ -13,9 +13,9 @@ use Rattle.std.proofs.Math.ListN.{drop, get_or, length-map}
 use Rattle.placement.specs.Compaction.{Written, Layout, holds, moved, live_below, settled, written_by_blocks, compacted}
 use Rattle.placement.specs.MovedLaws.{get_d_map}
 use Rattle.placement.specs.Places.{WellPlaced}
-use Rattle.placement.specs.Scan.{live_none, live_rising}
+use Rattle.placement.proofs.Scan.{live_none, live_rising}
 use Rattle.placement.specs.Steps.{steps}
-use Rattle.placement.specs.StepsLaw.{steps_are_blocks}
+use Rattle.placement.proofs.StepsLaw.{steps_are_blocks}
 
 -- the places, were no point at place q or later live
 unfoldable pub no_later : ℕ → List ℕ → List ℕ

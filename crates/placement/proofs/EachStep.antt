@@ -14,9 +14,10 @@ use Rattle.std.proofs.lemmas.List.{take-append-le}
 use Rattle.std.proofs.Math.Seq.{take-append_seam, get_or-append_seam}
 use Rattle.terms.specs.Entries.{any_default}
 use Rattle.placement.specs.Compaction.{Layout, holds, live_below, settled, compacted}
-use Rattle.placement.specs.NoLater.{no_later, AsCompacted, after_step}
+use Rattle.placement.proofs.NoLater.{no_later, AsCompacted, after_step}
 use Rattle.placement.specs.Places.{WellPlaced}
-use Rattle.placement.specs.Scanned.{ScanState, shown, scanned}
+use Rattle.placement.specs.Scanned.{ScanState, shown}
+use Rattle.placement.proofs.ScannedLaws.{scanned}
 use Rattle.placement.specs.Steps.{steps}
 
 -- the place that k steps reach: that of the next live point or, once every step is made, the bound

@@ -8,9 +8,9 @@ use Rattle.std.proofs.Math.Seq.{drop-length, take-suc, take_all}
 use Rattle.std.proofs.lemmas.List.{set_split}
 use borrow.Rule.Slice.PartMut.{put_mid}
 use Rattle.decimal.specs.Field.{last_digit, column, columns, field}
-use Rattle.decimal.specs.FieldLaws.{length_field}
+use Rattle.decimal.proofs.FieldLaws.{length_field}
 use Rattle.decimal.specs.Lines.{fields, line}
-use Rattle.decimal.specs.LinesLaws.{fields_append, fields_room}
+use Rattle.decimal.proofs.LinesLaws.{fields_append, fields_room}
 use Rattle.decimal.specs.Segments.{put, put_none, put_put}
 
 -- ---- a field, from the right

@@ -1,0 +1,4 @@
+pub mod FieldLaws
+pub mod LinesLaws
+pub mod ReaderTurns
+pub mod WriterTurns

@@ -1,0 +1,10 @@
+pub mod CompactionLaws
+pub mod CopyingLaws
+pub mod EachStep
+pub mod InPlaceLaws
+pub mod LayingLaws
+pub mod NoLater
+pub mod ProgressLaws
+pub mod Scan
+pub mod ScannedLaws
+pub mod StepsLaw
