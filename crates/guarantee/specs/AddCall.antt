@@ -18,7 +18,7 @@ use Rattle.placement.specs.Row.{row_to_lay}
 use Rattle.labels.specs.Counted.{Counted, counted, next_index}
 use Rattle.labels.specs.Decisions.{code_decided, room_decided}
 use Rattle.labels.specs.Labels.{Labels, label_taken}
-use Rattle.labels.specs.TakeLaws.{label_keeps}
+use Rattle.labels.proofs.TakeLaws.{label_keeps}
 use Rattle.store_definitions.specs.declared.Shape.{Shape}
 use Rattle.store_definitions.specs.declared.Store.{Store}
 use Rattle.store_definitions.specs.Memory.{PointStore}

@@ -15,8 +15,4 @@ pub mod WindowLaws
 pub mod CopyLaws
 pub mod TableCalls
 pub mod AddCall
-pub mod EachCallKeeps
 pub mod Fresh
-pub mod FloatSpace
-pub mod Theorem
-pub mod CasesGuaranteed

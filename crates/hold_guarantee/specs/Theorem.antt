@@ -20,9 +20,9 @@ use Rattle.guarantee.specs.Calls.{open_call, add_call, copy_call, count_call}
 use Rattle.guarantee.specs.Run.{Call, add, after}
 use Rattle.guarantee.specs.History.{history, recorded}
 use Rattle.guarantee.specs.Guarantee.{Guarantee}
-use Rattle.guarantee.specs.EachCallKeeps.{formed}
+use Rattle.guarantee.proofs.EachCallKeeps.{formed}
 use Rattle.guarantee.specs.CopyLaws.{count_answer_lem}
-use Rattle.guarantee.specs.Theorem.{guaranteed}
+use Rattle.guarantee.proofs.Theorem.{guaranteed}
 use Rattle.hold_definitions.specs.Memory.{HoldMemory, PointHold, store_of}
 use Rattle.hold_definitions.specs.Listed.{times}
 use Rattle.hold_definitions.specs.Answers.{HoldOutcome, hold_outcome}

@@ -4,12 +4,11 @@ use Rattle.std.specs.Prelude.{ℕ, ◌≤◌, ◌<◌, List, true, ◌≡◌, ge
 use Rattle.std.proofs.Math.Path.{refl}
 use Rattle.std.proofs.Common.{sym, ◌∙◌, ap, lt-ltb}
 use Rattle.labels.specs.Classes.{class_of}
-use Rattle.labels.specs.Labels.{Labels, code_at, label_count_at, label_raised, label_lowered, label_taken}
+use Rattle.labels.specs.Labels.{Labels, code_at, label_count_at, label_raised, label_lowered}
 use Rattle.labels.specs.Sound.{Sound}
 use Rattle.labels.specs.Decisions.{in_use}
 use Rattle.labels.specs.Readings.{Answer, holds, label_spec, attribute_spec}
 use Rattle.labels.specs.CountLaws.{inc_keeps, dec_keeps}
-use Rattle.labels.specs.TakeLaws.{label_keeps, code_kept}
 
 -- what the readings label and attribute answer
 abbrev pub code_answer : ℕ → Labels → ℕ → Answer
@@ -33,15 +32,11 @@ module _ (classes : List ℕ) (c : ℕ) where
   class_answer_lem l w i m u = rw (live_in_use c l.label_table.counts i m u) (ap holds (w.stands i m u).slot_class)
 
   -- so it stays where the code stays
-  stays : (l k : Labels) → Sound classes c l → Sound classes c k → (i : ℕ) → i < c → 0 < label_count_at l i → 0 < label_count_at k i → code_at k i ≡ code_at l i → class_answer c k i ≡ class_answer c l i
+  pub stays : (l k : Labels) → Sound classes c l → Sound classes c k → (i : ℕ) → i < c → 0 < label_count_at l i → 0 < label_count_at k i → code_at k i ≡ code_at l i → class_answer c k i ≡ class_answer c l i
   stays l k w x i m u v e =
       class_answer_lem k x i m v ∙ (ap (λ (n : ℕ). holds (class_of classes n)) e ∙ sym (class_answer_lem l w i m u))
 
   module _ (l : Labels) (w : Sound classes c l) (i : ℕ) (m : i < c) (u : 0 < label_count_at l i) where
-    pub taken_answer : (code : ℕ) → code ≤ 23 → 0 < l.label_table.manager.last_in_use → 0 < label_count_at (label_taken classes c l code).after i → class_answer c (label_taken classes c l code).after i ≡ class_answer c l i
-    taken_answer code h f v =
-        stays l (label_taken classes c l code).after w (label_keeps classes c l w code h f) i m u v (code_kept classes c l w code h f i m u).0
-
     module _ (k : ℕ) (b : k < c) (n : 0 < label_count_at l k) where
       pub raised_answer : label_count_at l k < 65535 → 0 < label_count_at (label_raised l k) i → class_answer c (label_raised l k) i ≡ class_answer c l i
       unfolding label_raised

@@ -6,7 +6,6 @@ pub mod Sound
 pub mod SlotLaws
 pub mod CountLaws
 pub mod TakeSlotLaws
-pub mod TakeLaws
 pub mod Opening
 pub mod Decisions
 pub mod Readings

@@ -17,7 +17,7 @@ use Rattle.store_laws.specs.AddingLaws.{add_keeps}
 use Rattle.guarantee.specs.Calls.{open_call, add_call}
 use Rattle.guarantee.specs.Run.{Call, add, after}
 use Rattle.guarantee.specs.History.{history, recorded, points_with}
-use Rattle.guarantee.specs.Theorem.{guaranteed}
+use Rattle.guarantee.proofs.Theorem.{guaranteed}
 use Rattle.probes_definitions.specs.Memory.{PointProbes, store_of, last_floats}
 use Rattle.probes_definitions.specs.Answers.{ProbesOutcome, probes_outcome}
 use Rattle.probes_definitions.specs.Readings.{any_absent, filled}

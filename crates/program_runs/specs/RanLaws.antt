@@ -12,7 +12,7 @@ use Rattle.store_adjust.specs.Pairs.{pairings}
 use Rattle.store_adjust_pairs.specs.Records.{pairings_of}
 use Rattle.guarantee.specs.Run.{Call, add, inc, dec, adjust, compact, called, after, answer_to}
 use Rattle.guarantee.specs.Guarantee.{Guarantee}
-use Rattle.guarantee.specs.Theorem.{guaranteed}
+use Rattle.guarantee.proofs.Theorem.{guaranteed}
 use Rattle.program_runs.specs.Ran.{Opened, opens, Ran, none_yet, adds, incs, decs, adjusts_plain, adjusts, compacts}
 
 pub opened_is : {h : Shape} {text : List ℕ} {m : Memory ℕ} {start : PointStore ℕ} → Opened h text m start → open_spec 0 h text m ≡ outcome done start

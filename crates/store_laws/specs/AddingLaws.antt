@@ -14,7 +14,7 @@ use Rattle.placement.specs.Laying.{place_of}
 use Rattle.labels.specs.Counted.{Counted, counted, next_index, index_taken}
 use Rattle.labels.specs.CountedLaws.{next_within, take_keeps}
 use Rattle.labels.specs.Labels.{Labels, label_taken}
-use Rattle.labels.specs.TakeLaws.{label_keeps}
+use Rattle.labels.proofs.TakeLaws.{label_keeps}
 use Rattle.store_definitions.specs.declared.Store.{Store}
 use Rattle.store_definitions.specs.Memory.{PointStore}
 use Rattle.store_definitions.specs.Answers.{kept, refused, outcome}

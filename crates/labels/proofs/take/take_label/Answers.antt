@@ -7,7 +7,7 @@ use Rattle.labels.specs.Labels.{SlotTaken}
 use Rattle.labels.specs.Sound.{sound}
 use Rattle.labels.specs.SlotLaws.{slot_free, slot_count_most}
 use Rattle.labels.specs.TakeSlotLaws.{slot_took}
-use Rattle.labels.specs.TakeLaws.{taken_label}
+use Rattle.labels.proofs.TakeLaws.{taken_label}
 use Rattle.labels.specs.Forms.{label_half}
 use Rattle.labels.proofs.take.take_label.Goals as goal
 

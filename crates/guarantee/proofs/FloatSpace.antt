@@ -17,7 +17,7 @@ use Rattle.store_laws.specs.Sound.{sound}
 use Rattle.store_laws.specs.RefusalLaws.{add_never, add_refused_ten}
 use Rattle.store_laws.specs.AddDecisionLaws.{keeps_on}
 use Rattle.guarantee.specs.SpaceLaws.{refused_bound, refused_largest, unturned_fits}
-use Rattle.guarantee.specs.EachCallKeeps.{formed}
+use Rattle.guarantee.proofs.EachCallKeeps.{formed}
 
 full_room : {E : Type 0} (b : Bool) (x y : PointStore E) (i l : ℕ) (laid : Laid) (left : ℕ) → (cond b (outcome (refused 10) x) (outcome (kept i l laid left) y)).answer ≡ refused 10 → b ≡ true
 full_room true x y i l laid left e = refl

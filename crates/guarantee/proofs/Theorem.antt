@@ -30,9 +30,9 @@ use Rattle.guarantee.specs.RoomLaws.{compact_free_lem}
 use Rattle.guarantee.specs.SpaceLaws.{points_number}
 use Rattle.guarantee.specs.CopyLaws.{copy_answer_lem, count_answer_lem}
 use Rattle.guarantee.specs.RowCalls.{live_point, live_number_is}
-use Rattle.guarantee.specs.EachCallKeeps.{formed, call_well_formed, call_kept}
+use Rattle.guarantee.proofs.EachCallKeeps.{formed, call_well_formed, call_kept}
 use Rattle.guarantee.specs.Fresh.{fresh}
-use Rattle.guarantee.specs.FloatSpace.{unturned_never_ten, ten_bound}
+use Rattle.guarantee.proofs.FloatSpace.{unturned_never_ten, ten_bound}
 
 module _ {E : Type 0} (eq : E → E → Bool) (zero_element : E) (h : Shape) (start : PointStore E) where
   abbrev store_after : List (Call E) → PointStore E

@@ -13,7 +13,7 @@ use Rattle.store_definitions.specs.Parts.{table_length}
 use Rattle.guarantee.specs.Calls.{copy_call, count_call, live_number_call}
 use Rattle.guarantee.specs.Run.{Call, add, dec, compact}
 use Rattle.guarantee.specs.Guarantee.{count_answer, number_in, live_indices, Guarantee}
-use Rattle.guarantee.specs.Theorem.{guaranteed}
+use Rattle.guarantee.proofs.Theorem.{guaranteed}
 use Rattle.guarantee.specs.CaseLists.{plain, turning, small_plain, small_turning, small_labelled, rubbish, table, fresh, opening, past, store, gave, list_a, list_b, list_c, list_four, list_five, list_full, list_d, list_g, list_adjust, list_insert, list_small, third, list_labelled, list_zeros, a_nan, list_nan}
 use Rattle.guarantee.specs.Cases.{computed, said}
 

@@ -1,0 +1,4 @@
+pub mod CasesGuaranteed
+pub mod EachCallKeeps
+pub mod FloatSpace
+pub mod Theorem
