@@ -10,7 +10,7 @@ use Rattle.store_definitions.specs.Lent.{entered, left}
 use Rattle.probes_definitions.specs.Memory.{PointProbes, point_probes}
 use Rattle.probes_definitions.specs.Answers.{ProbesOutcome, probes_outcome}
 use Rattle.probes_definitions.specs.Readings.{of_kinds, of_floats}
-use Rattle.probes_definitions.specs.SettingLaws.{kinds_set, kinds_none}
+use Rattle.probes_definitions.proofs.SettingLaws.{kinds_set, kinds_none}
 use Rattle.probes_guarantee.specs.Calls.{probes_open_call, set_call}
 use Rattle.probes_guarantee.specs.Run.{ProbeSet, probes_after, probes_answer_to}
 use Rattle.probes_guarantee.specs.Guarantee.{ProbesGuarantee}
