@@ -37,8 +37,8 @@ use Rattle.hold_guarantee.specs.Calls.{hold_open_call, hold_add_call}
 use Rattle.hold_guarantee.specs.Run.{HoldAdd, hold_after, hold_answer_to}
 use Rattle.hold_guarantee.specs.History.{KeptAdd, indices, newest, accepted_points, kept_adds}
 use Rattle.hold_guarantee.specs.Guarantee.{Each, EachAdd, held_adds, held_list, HoldGuarantee}
-use Rattle.hold_guarantee.specs.ListLaws.{each_map}
-use Rattle.hold_guarantee.specs.StoreRun.{store_calls, given_by, LivesSince, Follows, add_follows}
+use Rattle.hold_guarantee.proofs.ListLaws.{each_map}
+use Rattle.hold_guarantee.proofs.StoreRun.{store_calls, given_by, LivesSince, Follows, add_follows}
 
 newest_none : {A : Type 0} (n : ℕ) → ◌≡◌ {A = List A} (newest n []) []
 unfolding newest

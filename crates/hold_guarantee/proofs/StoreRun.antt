@@ -27,7 +27,7 @@ use Rattle.hold_definitions.proofs.NamesLaws.{gained_names}
 use Rattle.hold_guarantee.specs.Run.{HoldAdd, hold_after, hold_answer_to}
 use Rattle.hold_guarantee.specs.History.{KeptAdd, kept_with, indices, newest}
 use Rattle.hold_guarantee.specs.Guarantee.{Each}
-use Rattle.hold_guarantee.specs.ListLaws.{trimmed, newest_trimmed, each_append, each_drop, each_map, newest_last, indices_append, indices_drop, indices_length, each_named}
+use Rattle.hold_guarantee.proofs.ListLaws.{trimmed, newest_trimmed, each_append, each_drop, each_map, newest_last, indices_append, indices_drop, indices_length, each_named}
 
 module _ {E : Type 0} where
   -- the dec that a kept add brings
