@@ -23,9 +23,9 @@ use Rattle.hold_definitions.specs.Answers.{hold_outcome}
 use Rattle.hold_definitions.specs.WellFormed.{hold_well_formed}
 use Rattle.hold_definitions.specs.Adding.{written_to, with_store, oldest_label, gave_up, holding, held_after, hold_added}
 use Rattle.hold_definitions.specs.CountsAfter.{Gained, Leaves, add_leaves, counted_inside, count_now}
-use Rattle.hold_definitions.specs.Sound.{HoldSound, hold_sound}
-use Rattle.hold_definitions.specs.NamesLaws.{gained_names, oldest_decided}
-use Rattle.hold_definitions.specs.AddingLaws.{length_more}
+use Rattle.hold_definitions.proofs.Sound.{HoldSound, hold_sound}
+use Rattle.hold_definitions.proofs.NamesLaws.{gained_names, oldest_decided}
+use Rattle.hold_definitions.proofs.AddingLaws.{length_more}
 use Rattle.hold.specs.declared.keep.Given.{Given}
 
 abbrev pub given_in : Answer → Given

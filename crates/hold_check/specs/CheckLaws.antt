@@ -16,7 +16,7 @@ use Rattle.hold_definitions.specs.Memory.{PointHold, store_of, indices_of, label
 use Rattle.hold_definitions.specs.Listed.{times, sum_times}
 use Rattle.hold_definitions.specs.WellFormed.{width_allowed, tables_lent, names_live_points, counted_once, own_labels, hold_well_formed}
 use Rattle.hold_definitions.specs.CountsAfter.{count_now, counted_below, counted_past, counted_inside}
-use Rattle.hold_definitions.specs.Sound.{names_counts, names_once, names_make, counted_make, own_sound, own_make}
+use Rattle.hold_definitions.proofs.Sound.{names_counts, names_once, names_make, counted_make, own_sound, own_make}
 use Rattle.hold_check.specs.ListedOnce.{listed_once, same_test, Once, listed_sound, listed_make}
 
 module _ {E : Type 0} (p : PointStore E) (xs : List ℕ) where

@@ -7,11 +7,5 @@ pub mod Adding
 pub mod Readings
 pub mod Lent
 pub mod CountsAfter
-pub mod Sound
-pub mod ReadingLaws
-pub mod NamesLaws
-pub mod AddingLaws
-pub mod FigureLaws
-pub mod OpeningLaws
 pub mod Cases
 pub mod EachClause

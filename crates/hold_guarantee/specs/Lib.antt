@@ -2,8 +2,4 @@ pub mod Calls
 pub mod Run
 pub mod History
 pub mod Guarantee
-pub mod ListLaws
-pub mod StoreRun
-pub mod Theorem
 pub mod Ran
-pub mod RanLaws

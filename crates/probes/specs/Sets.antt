@@ -17,9 +17,9 @@ use Rattle.probes_definitions.specs.Answers.{ProbesOutcome, probes_outcome}
 use Rattle.probes_definitions.specs.Readings.{ProbeReading, filled, of_kinds, of_floats}
 use Rattle.probes_definitions.specs.WellFormed.{probes_well_formed}
 use Rattle.probes_definitions.specs.Setting.{set_added, set_decided, kinds_decided, then_set, set_checked, set_spec, set_kinds_spec}
-use Rattle.probes_definitions.specs.Sound.{probes_sound}
+use Rattle.probes_definitions.proofs.Sound.{probes_sound}
 use Rattle.probes_definitions.specs.WindowAfter.{Leaves, add_leaves, eight_wide}
-use Rattle.probes_definitions.specs.SettingLaws.{kinds_set}
+use Rattle.probes_definitions.proofs.SettingLaws.{kinds_set}
 use Rattle.probe_readings.specs.Kinds.{kinds_of, words_of, set_same, floats_decided, tallied_kinds, is_accepted, tallied_if}
 use Rattle.probe_readings.specs.Deciding.{set_asked, asked_is}
 

@@ -6,9 +6,6 @@ pub mod Opening
 pub mod Setting
 pub mod Tallies
 pub mod ReadingLaws
-pub mod Sound
 pub mod WindowAfter
-pub mod SettingLaws
-pub mod OpeningLaws
 pub mod Cases
 pub mod EachClause

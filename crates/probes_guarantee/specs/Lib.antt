@@ -3,6 +3,4 @@ pub mod Run
 pub mod History
 pub mod Guarantee
 pub mod StoreRun
-pub mod Theorem
 pub mod Ran
-pub mod RanLaws

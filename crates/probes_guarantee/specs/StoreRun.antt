@@ -17,9 +17,9 @@ use Rattle.probes_definitions.specs.Answers.{ProbesOutcome, probes_outcome}
 use Rattle.probes_definitions.specs.Readings.{ProbeReading, absent, estimates, filled, tallied}
 use Rattle.probes_definitions.specs.ReadingLaws.{tallied_at}
 use Rattle.probes_definitions.specs.Setting.{tallied_with, set_added, no_earlier, set_decided, then_set, set_checked}
-use Rattle.probes_definitions.specs.Sound.{ProbesSound}
+use Rattle.probes_definitions.proofs.Sound.{ProbesSound}
 use Rattle.probes_definitions.specs.WindowAfter.{Unmoved, Moved, Leaves, last_moved, last_unmoved}
-use Rattle.probes_definitions.specs.SettingLaws.{added_sound}
+use Rattle.probes_definitions.proofs.SettingLaws.{added_sound}
 use Rattle.probes_guarantee.specs.History.{estimates_with, last_of}
 
 -- a checked set, by the two tests before the store's add

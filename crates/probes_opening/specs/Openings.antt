@@ -19,7 +19,7 @@ use Rattle.probes_definitions.specs.Memory.{point_probes}
 use Rattle.probes_definitions.specs.Answers.{ProbesOutcome, probes_outcome}
 use Rattle.probes_definitions.specs.WellFormed.{eight_probes}
 use Rattle.probes_definitions.specs.Opening.{probes_open_decided, no_probes, probes_open_carried_out, probes_open_spec}
-use Rattle.probes_definitions.specs.OpeningLaws.{probes_open_other, probes_open_outside, probes_open_store}
+use Rattle.probes_definitions.proofs.OpeningLaws.{probes_open_other, probes_open_outside, probes_open_store}
 
 -- the test of the code
 abbrev pub tested : (dims shingle : ℕ) → Bool → Bool

@@ -4,7 +4,7 @@ use mathlib.Core.Path.{refl, sym, ◌∙◌}
 use Rattle.hold_definitions.specs.Lent.{hold_held}
 use Rattle.hold_definitions.specs.Memory.{HoldMemory, point_hold}
 use Rattle.float_bits.specs.Words.{words_equal}
-use Rattle.hold_definitions.specs.AddingLaws.{hold_answers, hold_ill}
+use Rattle.hold_definitions.proofs.AddingLaws.{hold_answers, hold_ill}
 use Rattle.hold.proofs.add.Goals as goal
 
 pub returns-then-ok : goal.returns-then-ok

@@ -6,7 +6,7 @@ use Rattle.hold_definitions.specs.Lent.{hold_held}
 use Rattle.hold_definitions.specs.Memory.{HoldMemory, point_hold}
 use Rattle.float_bits.specs.Words.{words_equal}
 use Rattle.store_definitions.specs.Answers.{added_means}
-use Rattle.hold_definitions.specs.Sound.{hold_sound}
+use Rattle.hold_definitions.proofs.Sound.{hold_sound}
 use Rattle.store_add.specs.Answering.{changed_outcome}
 use Rattle.hold.specs.Keeping.{added_ready, added_held}
 use Rattle.hold.proofs.add_checked.Goals as goal

@@ -8,7 +8,7 @@ use mathlib.Core.Path.{sym, ◌∙◌}
 use borrow.Author.Rules.{rules}
 use Rattle.store_definitions.specs.Memory.{point_store}
 use Rattle.store_definitions.specs.Answers.{added_means, outcome}
-use Rattle.probes_definitions.specs.Sound.{probes_sound}
+use Rattle.probes_definitions.proofs.Sound.{probes_sound}
 use Rattle.store_add.specs.Answering.{changed_outcome}
 use Rattle.probes.specs.Sets.{add_of, window_enough, tally_room, set_done}
 use Rattle.probes.proofs.set_filled.Goals as goal

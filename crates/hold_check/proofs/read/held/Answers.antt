@@ -3,7 +3,7 @@ use Rattle.std.proofs.Common.{ℕ, List, length, sym, ap, ◌∙◌}
 use Rattle.store_definitions.specs.Answers.{done, output}
 use Rattle.hold_definitions.specs.Lent.{hold_held}
 use Rattle.hold_definitions.specs.Memory.{point_hold}
-use Rattle.hold_definitions.specs.ReadingLaws.{held_ill, held_short, held_whole, held_fits}
+use Rattle.hold_definitions.proofs.ReadingLaws.{held_ill, held_short, held_whole, held_fits}
 use Rattle.hold_check.proofs.read.held.Goals as goal
 
 pub copy_list-requires : goal.copy_list-requires

@@ -2,7 +2,7 @@
 use Rattle.std.proofs.Common.{sym, ◌∙◌}
 use Rattle.hold_definitions.specs.Lent.{hold_held}
 use Rattle.hold_definitions.specs.Memory.{point_hold}
-use Rattle.hold_definitions.specs.ReadingLaws.{number_ill, number_well}
+use Rattle.hold_definitions.proofs.ReadingLaws.{number_ill, number_well}
 use Rattle.hold_check.proofs.read.held_number.Goals as goal
 
 pub returns-then-ok : goal.returns-then-ok

@@ -11,7 +11,7 @@ use Rattle.hold_definitions.specs.Lent.{hold_left}
 use Rattle.hold_guarantee.specs.Calls.{hold_open_call, hold_add_call}
 use Rattle.hold_guarantee.specs.Run.{HoldAdd, hold_after, hold_answer_to}
 use Rattle.hold_guarantee.specs.Guarantee.{HoldGuarantee}
-use Rattle.hold_guarantee.specs.Theorem.{hold_guaranteed}
+use Rattle.hold_guarantee.proofs.Theorem.{hold_guaranteed}
 use Rattle.hold_guarantee.specs.Ran.{HoldOpened, opens, HoldRan, none_yet, adds}
 
 pub opened_is : {s : Shape} {width : ℕ} {text : List ℕ} {m : HoldMemory ℕ} {start : PointHold ℕ} → HoldOpened s width text m start → hold_open_call 0 s width text m ≡ hold_outcome done start

@@ -16,8 +16,8 @@ use Rattle.hold_definitions.specs.Answers.{HoldOutcome, hold_outcome}
 use Rattle.hold_definitions.specs.WellFormed.{hold_well_formed}
 use Rattle.hold_definitions.specs.Adding.{written_to, with_store, with_list, oldest_label, gave_up, holding, held_after, hold_added, hold_add_spec}
 use Rattle.hold_definitions.specs.CountsAfter.{SameShape, SameCounts, Gained, Leaves, add_leaves}
-use Rattle.hold_definitions.specs.Sound.{Names, HoldSound, hold_sound, hold_sound_make}
-use Rattle.hold_definitions.specs.NamesLaws.{names_same, gained_names, oldest_decided, given_up_sound, given_up_shape, given_up_length, given_up_names}
+use Rattle.hold_definitions.proofs.Sound.{Names, HoldSound, hold_sound, hold_sound_make}
+use Rattle.hold_definitions.proofs.NamesLaws.{names_same, gained_names, oldest_decided, given_up_sound, given_up_shape, given_up_length, given_up_names}
 
 -- a list written to a table that is long enough
 written_length : (table xs : List ℕ) → length xs ≤ length table → length (written_to table xs) ≡ length table

@@ -29,16 +29,16 @@ use Rattle.hold_definitions.specs.Answers.{HoldOutcome, hold_outcome}
 use Rattle.hold_definitions.specs.Adding.{held_after, hold_added}
 use Rattle.hold_definitions.specs.Readings.{hold_form_decided, held_spec, held_number_spec}
 use Rattle.hold_definitions.specs.CountsAfter.{Leaves, add_leaves, count_now, counted_live, counted_below, counted_inside}
-use Rattle.hold_definitions.specs.Sound.{HoldSound, hold_sound_make}
-use Rattle.hold_definitions.specs.AddingLaws.{hold_answers, held_length}
-use Rattle.hold_definitions.specs.FigureLaws.{hold_figure}
-use Rattle.hold_definitions.specs.OpeningLaws.{hold_open_accepted, hold_open_done, fresh_sound}
+use Rattle.hold_definitions.proofs.Sound.{HoldSound, hold_sound_make}
+use Rattle.hold_definitions.proofs.AddingLaws.{hold_answers, held_length}
+use Rattle.hold_definitions.proofs.FigureLaws.{hold_figure}
+use Rattle.hold_definitions.proofs.OpeningLaws.{hold_open_accepted, hold_open_done, fresh_sound}
 use Rattle.hold_guarantee.specs.Calls.{hold_open_call, hold_add_call}
 use Rattle.hold_guarantee.specs.Run.{HoldAdd, hold_after, hold_answer_to}
 use Rattle.hold_guarantee.specs.History.{KeptAdd, indices, newest, accepted_points, kept_adds}
 use Rattle.hold_guarantee.specs.Guarantee.{Each, EachAdd, held_adds, held_list, HoldGuarantee}
-use Rattle.hold_guarantee.specs.ListLaws.{each_map}
-use Rattle.hold_guarantee.specs.StoreRun.{store_calls, given_by, LivesSince, Follows, add_follows}
+use Rattle.hold_guarantee.proofs.ListLaws.{each_map}
+use Rattle.hold_guarantee.proofs.StoreRun.{store_calls, given_by, LivesSince, Follows, add_follows}
 
 newest_none : {A : Type 0} (n : ℕ) → ◌≡◌ {A = List A} (newest n []) []
 unfolding newest

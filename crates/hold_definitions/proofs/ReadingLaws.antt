@@ -6,7 +6,7 @@ use Rattle.store_definitions.specs.Answers.{done, is, refused, output}
 use Rattle.hold_definitions.specs.Memory.{PointHold}
 use Rattle.hold_definitions.specs.WellFormed.{hold_well_formed}
 use Rattle.hold_definitions.specs.Readings.{hold_form_decided, held_spec, held_number_spec}
-use Rattle.hold_definitions.specs.Sound.{hold_sound}
+use Rattle.hold_definitions.proofs.Sound.{hold_sound}
 
 module _ {E : Type 0} (h : PointHold E) where
   pub held_ill : hold_well_formed h ≡ false → (out : List ℕ) → output (refused 1) out ≡ held_spec h out

@@ -10,11 +10,11 @@ use Rattle.store_definitions.specs.Lent.{entered, left}
 use Rattle.probes_definitions.specs.Memory.{PointProbes, point_probes}
 use Rattle.probes_definitions.specs.Answers.{ProbesOutcome, probes_outcome}
 use Rattle.probes_definitions.specs.Readings.{of_kinds, of_floats}
-use Rattle.probes_definitions.specs.SettingLaws.{kinds_set, kinds_none}
+use Rattle.probes_definitions.proofs.SettingLaws.{kinds_set, kinds_none}
 use Rattle.probes_guarantee.specs.Calls.{probes_open_call, set_call}
 use Rattle.probes_guarantee.specs.Run.{ProbeSet, probes_after, probes_answer_to}
 use Rattle.probes_guarantee.specs.Guarantee.{ProbesGuarantee}
-use Rattle.probes_guarantee.specs.Theorem.{probes_guaranteed}
+use Rattle.probes_guarantee.proofs.Theorem.{probes_guaranteed}
 use Rattle.probes_guarantee.specs.Ran.{ProbesOpened, opens, ProbesRan, none_yet, sets, sets_words, no_set}
 
 pub opened_is : {s : Shape} {text : List ℕ} {m : Memory ℕ} {start : PointProbes ℕ} → ProbesOpened s text m start → probes_open_call 0 s text m ≡ probes_outcome done start

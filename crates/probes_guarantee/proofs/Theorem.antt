@@ -24,10 +24,10 @@ use Rattle.probes_definitions.specs.Readings.{any_absent, filled}
 use Rattle.probes_definitions.specs.ReadingLaws.{filled_length}
 use Rattle.probes_definitions.specs.Setting.{set_added, no_earlier}
 use Rattle.probes_definitions.specs.Tallies.{probes_form_decided, tallies_spec}
-use Rattle.probes_definitions.specs.Sound.{ProbesSound, probes_sound_make}
+use Rattle.probes_definitions.proofs.Sound.{ProbesSound, probes_sound_make}
 use Rattle.probes_definitions.specs.WindowAfter.{add_leaves, eight_wide, last_length}
-use Rattle.probes_definitions.specs.SettingLaws.{set_checks}
-use Rattle.probes_definitions.specs.OpeningLaws.{probes_open_accepted, probes_open_done, zeros_at, opened_begun, fresh_sound}
+use Rattle.probes_definitions.proofs.SettingLaws.{set_checks}
+use Rattle.probes_definitions.proofs.OpeningLaws.{probes_open_accepted, probes_open_done, zeros_at, opened_begun, fresh_sound}
 use Rattle.probes_guarantee.specs.Calls.{probes_open_call, set_call}
 use Rattle.probes_guarantee.specs.Run.{ProbeSet, probes_after, probes_answer_to}
 use Rattle.probes_guarantee.specs.History.{last_of, estimates_with, estimated_readings, filled_sets, filled_set, absent_first, store_calls}

@@ -21,13 +21,13 @@ use Rattle.hold_definitions.specs.Memory.{PointHold, store_of, indices_of, label
 use Rattle.hold_definitions.specs.Listed.{times, times_first}
 use Rattle.hold_definitions.specs.Adding.{with_store, with_list, oldest_label, gave_up, holding, held_after}
 use Rattle.hold_definitions.specs.CountsAfter.{SameCounts, Gained, Leaves}
-use Rattle.hold_definitions.specs.Sound.{HoldSound}
-use Rattle.hold_definitions.specs.AddingLaws.{length_more, gives_up, after_sound}
-use Rattle.hold_definitions.specs.NamesLaws.{gained_names}
+use Rattle.hold_definitions.proofs.Sound.{HoldSound}
+use Rattle.hold_definitions.proofs.AddingLaws.{length_more, gives_up, after_sound}
+use Rattle.hold_definitions.proofs.NamesLaws.{gained_names}
 use Rattle.hold_guarantee.specs.Run.{HoldAdd, hold_after, hold_answer_to}
 use Rattle.hold_guarantee.specs.History.{KeptAdd, kept_with, indices, newest}
 use Rattle.hold_guarantee.specs.Guarantee.{Each}
-use Rattle.hold_guarantee.specs.ListLaws.{trimmed, newest_trimmed, each_append, each_drop, each_map, newest_last, indices_append, indices_drop, indices_length, each_named}
+use Rattle.hold_guarantee.proofs.ListLaws.{trimmed, newest_trimmed, each_append, each_drop, each_map, newest_last, indices_append, indices_drop, indices_length, each_named}
 
 module _ {E : Type 0} where
   -- the dec that a kept add brings

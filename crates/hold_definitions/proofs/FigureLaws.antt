@@ -18,9 +18,9 @@ use Rattle.hold_definitions.specs.Listed.{times, sum_times}
 use Rattle.hold_definitions.specs.WellFormed.{hold_well_formed}
 use Rattle.hold_definitions.specs.Adding.{holding, held_after, hold_added, hold_add_spec}
 use Rattle.hold_definitions.specs.CountsAfter.{counted_below, counted_inside, Gained, Leaves, add_leaves}
-use Rattle.hold_definitions.specs.Sound.{Names, HoldSound, hold_sound}
-use Rattle.hold_definitions.specs.NamesLaws.{gained_names}
-use Rattle.hold_definitions.specs.AddingLaws.{length_more, held_length, holding_length, hold_answers}
+use Rattle.hold_definitions.proofs.Sound.{Names, HoldSound, hold_sound}
+use Rattle.hold_definitions.proofs.NamesLaws.{gained_names}
+use Rattle.hold_definitions.proofs.AddingLaws.{length_more, held_length, holding_length, hold_answers}
 
 at_most_once : (n : ℕ) → n ≤ 1 → one (ltb 0 n) ≡ n
 at_most_once n h =

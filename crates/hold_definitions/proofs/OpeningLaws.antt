@@ -26,7 +26,7 @@ use Rattle.hold_definitions.specs.Listed.{times}
 use Rattle.hold_definitions.specs.WellFormed.{width_allowed, tables_lent}
 use Rattle.hold_definitions.specs.Opening.{hold_open_decided, fresh_hold, no_hold, hold_open_carried_out, hold_open_spec}
 use Rattle.hold_definitions.specs.CountsAfter.{count_now, counted_below, counted_past}
-use Rattle.hold_definitions.specs.Sound.{width_sound, HoldSound}
+use Rattle.hold_definitions.proofs.Sound.{width_sound, HoldSound}
 
 module _ {E : Type 0} (s : Shape) (width : ℕ) (text : List ℕ) (m : HoldMemory E) where
   -- 2 exactly outside the bounds; in them 15 exactly for a width that is not allowed; then 1 exactly over memory too short; then 17

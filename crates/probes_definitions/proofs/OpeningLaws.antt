@@ -23,7 +23,7 @@ use Rattle.probes_definitions.specs.Memory.{PointProbes, point_probes}
 use Rattle.probes_definitions.specs.Answers.{ProbesOutcome, probes_outcome}
 use Rattle.probes_definitions.specs.WellFormed.{eight_probes}
 use Rattle.probes_definitions.specs.Opening.{probes_open_decided, fresh_probes, no_probes, probes_open_carried_out, probes_open_spec}
-use Rattle.probes_definitions.specs.Sound.{eight_sound, ProbesSound}
+use Rattle.probes_definitions.proofs.Sound.{eight_sound, ProbesSound}
 
 module _ {E : Type 0} (s : Shape) (text : List ℕ) (m : Memory E) where
   abbrev eight : Bool

@@ -16,7 +16,7 @@ use Rattle.store_laws.specs.CountingLaws.{dec_accepted}
 use Rattle.hold_definitions.specs.Listed.{times, times_first, times_self, times_more, times_other, times_itself}
 use Rattle.hold_definitions.specs.Adding.{oldest_label, gave_up}
 use Rattle.hold_definitions.specs.CountsAfter.{count_now, counted_live, counted_below, counted_inside, label_count_now, SameShape, SameCounts, Gained, dec_shape, dec_length, dec_counts, dec_label_counts}
-use Rattle.hold_definitions.specs.Sound.{Own, Names}
+use Rattle.hold_definitions.proofs.Sound.{Own, Names}
 
 module _ {E : Type 0} where
   -- what leaves the counts leaves the names

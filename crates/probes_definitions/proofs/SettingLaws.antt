@@ -15,7 +15,7 @@ use Rattle.probes_definitions.specs.Readings.{ProbeReading, absent, filled, tall
 use Rattle.probes_definitions.specs.ReadingLaws.{tallied_length, estimates_most, tallied_at}
 use Rattle.probes_definitions.specs.WellFormed.{probes_well_formed}
 use Rattle.probes_definitions.specs.Setting.{tallied_with, set_added, set_decided, kinds_decided, then_set, set_checked, set_spec, set_kinds_spec}
-use Rattle.probes_definitions.specs.Sound.{ProbesSound, probes_sound, probes_sound_make}
+use Rattle.probes_definitions.proofs.Sound.{ProbesSound, probes_sound, probes_sound_make}
 use Rattle.probes_definitions.specs.WindowAfter.{SameShape, Unmoved, Moved, Leaves, add_leaves}
 
 module _ {E : Type 0} (p : PointProbes E) (w : ProbesSound p) (set : List (ProbeReading E)) (point : List E) (q : PointStore E) (well : well_formed q ≡ true) where

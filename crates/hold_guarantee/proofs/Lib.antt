@@ -1,0 +1,4 @@
+pub mod ListLaws
+pub mod RanLaws
+pub mod StoreRun
+pub mod Theorem

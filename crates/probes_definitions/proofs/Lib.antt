@@ -1,0 +1,3 @@
+pub mod OpeningLaws
+pub mod SettingLaws
+pub mod Sound
