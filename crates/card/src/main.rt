@@ -2,7 +2,7 @@
 #![tactic(auto)]
 
 use block::{Block, add_row, compact_block, dec_point, open_block};
-use libc::STDOUT_FILENO;
+use std::io;
 use store_definitions::{Number, Shape};
 use terms::NONE;
 
@@ -74,12 +74,13 @@ fn case_d() -> Block {
 }
 
 // The slice is longer than the page.
-fn main() {
+fn main(rt: HostRuntime) -> io::Result<()> {
     let mut text = [0u8; 64];
     let answer = page_of(case_d(), &mut text[..]);
     if let Number::Is(length) = answer {
         if length <= 64 {
-            io::write_all(STDOUT_FILENO, &text[..length]);
+            rt.write_all(&text[..length])?;
         }
     }
+    Ok(())
 }

@@ -11,6 +11,7 @@ mod text;
 use interval_store_manager::IntervalStoreManager;
 use made::{Made, Top, make, top_of};
 use recorded_text::count_lines;
+use std::{fs, io};
 use text::{Line, line_at};
 
 // What the replay of one line finds: the manager after it, and where the next line starts.
@@ -37,6 +38,7 @@ fn agrees(line: Line, made: Made, top: Top) -> bool {
 }
 
 fn replay_line(
+    rt: &impl Print,
     text: &[u8],
     at: usize,
     step: usize,
@@ -44,7 +46,7 @@ fn replay_line(
     starts: &mut [u16],
     ends: &mut [u16],
     tally: &mut [u64; 16],
-) -> Step {
+) -> io::Result<Step> {
     let line = line_at(text, at);
     let made = make(m, starts, ends, line.call, line.argument);
     let manager = made.manager;
@@ -52,15 +54,21 @@ fn replay_line(
     let agreed = agrees(line, made, top);
     tally::count(tally, line.call, agreed);
     if !agreed {
-        tally::print_difference(step, line, made, top);
+        tally::print_difference(rt, step, line, made, top)?;
     }
-    Step {
+    Ok(Step {
         manager,
         next: line.next,
-    }
+    })
 }
 
-fn replay(text: &[u8], starts: &mut [u16], ends: &mut [u16], tally: &mut [u64; 16]) {
+fn replay(
+    rt: &impl Print,
+    text: &[u8],
+    starts: &mut [u16],
+    ends: &mut [u16],
+    tally: &mut [u64; 16],
+) -> io::Result<()> {
     let lines = count_lines(text);
     let mut m = IntervalStoreManager {
         capacity: 0,
@@ -70,25 +78,18 @@ fn replay(text: &[u8], starts: &mut [u16], ends: &mut [u16], tally: &mut [u64; 1
     let mut step: usize = 0;
     while step < lines {
         step += 1;
-        let replayed = replay_line(text, at, step, m, starts, ends, tally);
+        let replayed = replay_line(rt, text, at, step, m, starts, ends, tally)?;
         m = replayed.manager;
         at = replayed.next;
     }
+    Ok(())
 }
 
-fn main() {
-    let path = b"manager_calls";
-    let fd = os::open_read(path);
-    if fd < 0 {
-        os::fail(path);
-        return;
-    }
-    let mut text = io::large_buffer();
-    let n = io::read_full(fd, &mut text);
-    libc::close(fd);
+fn main(rt: HostRuntime) -> io::Result<()> {
+    let text = fs::read(&rt, "manager_calls")?;
     let mut starts = [0u16; 1024];
     let mut ends = [0u16; 1024];
     let mut tally = [0u64; 16];
-    replay(&text[..n], &mut starts, &mut ends, &mut tally);
-    tally::print_summary(&tally);
+    replay(&rt, &text, &mut starts, &mut ends, &mut tally)?;
+    tally::print_summary(&rt, &tally)
 }

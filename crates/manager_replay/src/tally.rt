@@ -4,7 +4,7 @@ ghost use Rattle.std.specs.Prelude.{◌<◌};
 
 use crate::made::{CHANGE_CAPACITY, GET, GET_CAPACITY, IS_EMPTY, Made, NEW, RELEASE, Top, USED};
 use crate::text::Line;
-use libc::STDOUT_FILENO;
+use std::io;
 
 const ANY: usize = 7;
 
@@ -24,71 +24,88 @@ pub fn count(tally: &mut [u64; 16], call: usize, agreed: bool) {
     }
 }
 
-fn print(text: &[u8]) {
-    io::write_all(STDOUT_FILENO, text);
+fn print(rt: &impl Print, text: &[u8]) -> io::Result<()> {
+    rt.write_all(text)
 }
 
-fn print_number(text: &[u8], n: usize) {
-    print(text);
-    io::print_decimal(STDOUT_FILENO, n as u64);
+fn print_number(rt: &impl Print, text: &[u8], n: usize) -> io::Result<()> {
+    print(rt, text)?;
+    rt.print(n)
 }
 
-fn print_call(call: usize) {
+fn print_call(rt: &impl Print, call: usize) -> io::Result<()> {
     match call {
-        NEW => print(b"new"),
-        CHANGE_CAPACITY => print(b"change_capacity"),
-        GET => print(b"get"),
-        RELEASE => print(b"release"),
-        USED => print(b"used"),
-        IS_EMPTY => print(b"is_empty"),
-        GET_CAPACITY => print(b"get_capacity"),
-        _ => print(b"no call"),
+        NEW => print(rt, b"new"),
+        CHANGE_CAPACITY => print(rt, b"change_capacity"),
+        GET => print(rt, b"get"),
+        RELEASE => print(rt, b"release"),
+        USED => print(rt, b"used"),
+        IS_EMPTY => print(rt, b"is_empty"),
+        GET_CAPACITY => print(rt, b"get_capacity"),
+        _ => print(rt, b"no call"),
     }
 }
 
-fn print_seen(value: usize, answer: usize, in_use: usize, start: usize, end: usize) {
-    print_number(b"value ", value);
-    print_number(b", answer ", answer);
-    print_number(b", in use ", in_use);
-    print_number(b", top ", start);
-    print_number(b" to ", end);
+fn print_seen(
+    rt: &impl Print,
+    value: usize,
+    answer: usize,
+    in_use: usize,
+    start: usize,
+    end: usize,
+) -> io::Result<()> {
+    print_number(rt, b"value ", value)?;
+    print_number(rt, b", answer ", answer)?;
+    print_number(rt, b", in use ", in_use)?;
+    print_number(rt, b", top ", start)?;
+    print_number(rt, b" to ", end)
 }
 
-pub fn print_difference(step: usize, line: Line, made: Made, top: Top) {
-    print_number(b"step ", step);
-    print(b" differs: ");
-    print_call(line.call);
-    print_number(b" ", line.argument);
-    print(b": ");
+pub fn print_difference(
+    rt: &impl Print,
+    step: usize,
+    line: Line,
+    made: Made,
+    top: Top,
+) -> io::Result<()> {
+    print_number(rt, b"step ", step)?;
+    print(rt, b" differs: ")?;
+    print_call(rt, line.call)?;
+    print_number(rt, b" ", line.argument)?;
+    print(rt, b": ")?;
     print_seen(
+        rt,
         made.value,
         made.answer,
         made.manager.last_in_use,
         top.start,
         top.end,
-    );
-    print(b"; recorded: ");
-    print_seen(line.value, line.answer, line.in_use, line.start, line.end);
-    print(b"\n");
+    )?;
+    print(rt, b"; recorded: ")?;
+    print_seen(
+        rt,
+        line.value,
+        line.answer,
+        line.in_use,
+        line.start,
+        line.end,
+    )?;
+    print(rt, b"\n")
 }
 
-fn print_agreed(tally: &[u64; 16], kind: usize)
+fn print_agreed(rt: &impl Print, tally: &[u64; 16], kind: usize) -> io::Result<()>
     requires { kind < 8 }
 {
-    print(b": ");
-    io::print_decimal(STDOUT_FILENO, tally[8 + kind]);
-    print(b" of ");
-    io::print_decimal(STDOUT_FILENO, tally[kind]);
-    print(b" agree\n");
+    println!(rt; ": {} of {} agree", tally[8 + kind], tally[kind])
 }
 
-pub fn print_summary(tally: &[u64; 16]) {
+pub fn print_summary(rt: &impl Print, tally: &[u64; 16]) -> io::Result<()> {
     let mut call = 0;
     while call < ANY {
-        print_call(call);
-        print_agreed(tally, call);
+        print_call(rt, call)?;
+        print_agreed(rt, tally, call)?;
         call += 1;
     }
-    print(b"total");
-    print_agreed(tally, ANY);
+    print(rt, b"total")?;
+    print_agreed(rt, tally, ANY)
 }

@@ -17,6 +17,7 @@ use calls::make;
 use made::Made;
 use record::{Line, line_at};
 use recorded_text::count_lines;
+use std::{fs, io};
 use store_definitions::{Number, Shape};
 
 // What the replay of one line finds: the store after it, and where the next line starts.
@@ -54,22 +55,29 @@ fn rests(line: Line, b: Block) -> bool {
     live == line.live_number
 }
 
-fn replay_line(text: &[u8], at: usize, step: usize, b: Block, tally: &mut [u64]) -> Step {
+fn replay_line(
+    rt: &impl Print,
+    text: &[u8],
+    at: usize,
+    step: usize,
+    b: Block,
+    tally: &mut [u64],
+) -> io::Result<Step> {
     let line = line_at(text, at);
     let made = make(b, line);
     let after = made.block;
     let agreed = agrees(line, made) & rests(line, after);
     tally::count(tally, line.call, agreed);
     if !agreed {
-        tally::print_difference(step, line.call, made.value, line.value);
+        tally::print_difference(rt, step, line.call, made.value, line.value)?;
     }
-    Step {
+    Ok(Step {
         block: after,
         next: line.next,
-    }
+    })
 }
 
-fn replay(text: &[u8], tally: &mut [u64]) {
+fn replay(rt: &impl Print, text: &[u8], tally: &mut [u64]) -> io::Result<()> {
     let lines = count_lines(text);
     let opened = open_block(Shape {
         dimensions: 1,
@@ -85,23 +93,16 @@ fn replay(text: &[u8], tally: &mut [u64]) {
     let mut step: usize = 0;
     while step < lines {
         step += 1;
-        let replayed = replay_line(text, at, step, b, tally);
+        let replayed = replay_line(rt, text, at, step, b, tally)?;
         b = replayed.block;
         at = replayed.next;
     }
+    Ok(())
 }
 
-fn main() {
-    let path = b"store_calls";
-    let fd = os::open_read(path);
-    if fd < 0 {
-        os::fail(path);
-        return;
-    }
-    let mut text = [0u8; 524288];
-    let n = io::read_full(fd, &mut text);
-    libc::close(fd);
+fn main(rt: HostRuntime) -> io::Result<()> {
+    let text = fs::read(&rt, "store_calls")?;
     let mut tally = [0u64; 64];
-    replay(&text[..n], &mut tally[..]);
-    tally::print_summary(&tally[..]);
+    replay(&rt, &text, &mut tally[..])?;
+    tally::print_summary(&rt, &tally[..])
 }

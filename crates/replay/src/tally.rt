@@ -1,6 +1,6 @@
 // How many calls of each kind were replayed, and how many agreed: entry c counts the calls of kind c and entry 32 + c those
 // that agreed. Kind 31 is any call.
-use libc::STDOUT_FILENO;
+use std::io;
 
 const ANY: usize = 31;
 
@@ -21,44 +21,50 @@ pub fn count(tally: &mut [u64], call: usize, agreed: bool) {
     }
 }
 
-fn print(text: &[u8]) {
-    io::write_all(STDOUT_FILENO, text);
+fn print(rt: &impl Print, text: &[u8]) -> io::Result<()> {
+    rt.write_all(text)
 }
 
-fn print_number(text: &[u8], n: usize) {
-    print(text);
-    io::print_decimal(STDOUT_FILENO, n as u64);
+fn print_number(rt: &impl Print, text: &[u8], n: usize) -> io::Result<()> {
+    print(rt, text)?;
+    rt.print(n)
 }
 
-fn print_call(call: usize) {
+fn print_call(rt: &impl Print, call: usize) -> io::Result<()> {
     match call {
-        0 => print(b"open"),
-        1 => print(b"add"),
-        2 => print(b"inc"),
-        3 => print(b"dec"),
-        4 => print(b"adjust"),
-        5 => print(b"compact"),
-        6 => print(b"copy"),
-        7 => print(b"count"),
-        8 => print(b"is_equal"),
-        9 => print(b"point_sum"),
-        10 => print(b"shingled_point"),
-        11 => print(b"missing_indices"),
-        12 => print(b"next_indices"),
-        13 => print(b"label"),
-        14 => print(b"attribute"),
-        15 => print(b"attribute_vec"),
-        _ => print(b"no call"),
+        0 => print(rt, b"open"),
+        1 => print(rt, b"add"),
+        2 => print(rt, b"inc"),
+        3 => print(rt, b"dec"),
+        4 => print(rt, b"adjust"),
+        5 => print(rt, b"compact"),
+        6 => print(rt, b"copy"),
+        7 => print(rt, b"count"),
+        8 => print(rt, b"is_equal"),
+        9 => print(rt, b"point_sum"),
+        10 => print(rt, b"shingled_point"),
+        11 => print(rt, b"missing_indices"),
+        12 => print(rt, b"next_indices"),
+        13 => print(rt, b"label"),
+        14 => print(rt, b"attribute"),
+        15 => print(rt, b"attribute_vec"),
+        _ => print(rt, b"no call"),
     }
 }
 
-pub fn print_difference(step: usize, call: usize, made: usize, recorded: usize) {
-    print_number(b"step ", step);
-    print(b" differs: ");
-    print_call(call);
-    print_number(b": value ", made);
-    print_number(b", recorded ", recorded);
-    print(b"\n");
+pub fn print_difference(
+    rt: &impl Print,
+    step: usize,
+    call: usize,
+    made: usize,
+    recorded: usize,
+) -> io::Result<()> {
+    print_number(rt, b"step ", step)?;
+    print(rt, b" differs: ")?;
+    print_call(rt, call)?;
+    print_number(rt, b": value ", made)?;
+    print_number(rt, b", recorded ", recorded)?;
+    print(rt, b"\n")
 }
 
 fn entry(tally: &[u64], i: usize) -> u64 {
@@ -68,21 +74,19 @@ fn entry(tally: &[u64], i: usize) -> u64 {
     0
 }
 
-fn print_agreed(tally: &[u64], kind: usize) {
-    print(b": ");
-    io::print_decimal(STDOUT_FILENO, entry(tally, kind % 32 + 32));
-    print(b" of ");
-    io::print_decimal(STDOUT_FILENO, entry(tally, kind));
-    print(b" agree\n");
+fn print_agreed(rt: &impl Print, tally: &[u64], kind: usize) -> io::Result<()> {
+    let agreed = entry(tally, kind % 32 + 32);
+    let made = entry(tally, kind);
+    println!(rt; ": {agreed} of {made} agree")
 }
 
-pub fn print_summary(tally: &[u64]) {
+pub fn print_summary(rt: &impl Print, tally: &[u64]) -> io::Result<()> {
     let mut call = 0;
     while call < KINDS {
-        print_call(call);
-        print_agreed(tally, call);
+        print_call(rt, call)?;
+        print_agreed(rt, tally, call)?;
         call += 1;
     }
-    print(b"total");
-    print_agreed(tally, ANY);
+    print(rt, b"total")?;
+    print_agreed(rt, tally, ANY)
 }

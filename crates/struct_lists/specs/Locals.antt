@@ -3,7 +3,7 @@
 use Rattle.std.specs.Prelude.{◌≡◌, refl, ℕ, suc, List, [], ◌∷◌}
 use Rattle.std.proofs.Common.{sym, subst}
 use seplogic.Ra.Ura.{Ura}
-use seplogic.Ra.TreeShare.{full_share}
+use base.Fraction.{full_share}
 use mir.Syntax.{Ty, Mutability, Local, local, value_local, named, erased, mut, ty_ref, Step as PStep, field, deref, place, Opd as Operand, copy, addr_of, aggregate, Body, seq, assign}
 use mir.Val.{Val, vptr}
 use base.Logic.{ent, sep, via}

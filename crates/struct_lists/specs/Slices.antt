@@ -175,10 +175,10 @@ module _ {M : Type 1} {𝓤 : Ura M} (𝓛 : Logic 𝓤) (ν : Lft) where
 pub learn : {M : Type 1} {𝓤 : Ura M} {𝓛 : Logic 𝓤} {K : Type 0} {Γ : List (Item 𝓤)} {G : Goal 𝓤 𝓛.H} → K → (zs : List Slot) (δs : Names zs) (ls ms : Lists zs) → Long zs ls → (last : Fml)
     → (Long zs ms → Seq K 𝓛 (‵ (chain (lasts zs δs ms) ftrue) ∷ Γ) G)
     → Seq K 𝓛 (‵ (chain (said zs δs ls ms) last) ∷ Γ) G
-learn t [] δs ls ms long last go = drop t $ nothing t $ go tt
-learn t (z ∷ zs) δs ls ms long last go =
+learn {M = M} {𝓤 = 𝓤} {𝓛 = 𝓛} {K = K} {Γ = Γ} {G = G} t [] δs ls ms long last go = drop t $ nothing t $ go tt
+learn {M = M} {𝓤 = 𝓤} {𝓛 = 𝓛} {K = K} {Γ = Γ} {G = G} t (z ∷ zs) δs ls ms long last go =
     fsplit t $ fsplit t $ move t (1 ∷ []) $ feq_l t (λ e. move t (1 ∷ []) $
-    learn t zs δs.1 ls.1 ms.1 long.1 last (λ es. move t (1 ∷ 0 ∷ []) $ fjoin t $ go (e ∙ long.0, es)))
+    learn {Γ = ‵ (finally (row_of z.kind) δs.0 ms.0) ∷ Γ} t zs δs.1 ls.1 ms.1 long.1 last (λ es. move t (1 ∷ 0 ∷ []) $ fjoin t $ go (e ∙ long.0, es)))
 
 -- ---- arguments
 -- something of each slice, before the other arguments

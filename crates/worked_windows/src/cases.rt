@@ -4,176 +4,204 @@ use block::{
     Block, Ended, add_row, compact_block, copy_point, count_point, dec_point, inc_point,
     open_block, open_with_classes,
 };
+use std::io;
 use store_definitions::Shape;
 use terms::NONE;
 
 // A new store, and a line that says so with its shape.
-pub fn new_store(shape: Shape) -> Block {
-    said(shape, open_block(shape))
+pub fn new_store(rt: &impl Print, shape: Shape) -> io::Result<Block> {
+    said(rt, shape, open_block(shape))
 }
 
 // The same with a table of classes of its own.
-pub fn new_store_with(shape: Shape, class_text: &[u8]) -> Block {
-    said(shape, open_with_classes(shape, class_text))
+pub fn new_store_with(rt: &impl Print, shape: Shape, class_text: &[u8]) -> io::Result<Block> {
+    said(rt, shape, open_with_classes(shape, class_text))
 }
 
-fn said(shape: Shape, r: Ended) -> Block {
-    text(b"  new store: dimensions ");
-    number(shape.dimensions);
-    text(b", shingle size ");
-    number(shape.shingle_size);
-    text(b", capacity ");
-    number(shape.capacity);
-    text(b", start ");
-    number(shape.initial_capacity);
+fn said(rt: &impl Print, shape: Shape, r: Ended) -> io::Result<Block> {
+    text(rt, b"  new store: dimensions ")?;
+    number(rt, shape.dimensions)?;
+    text(rt, b", shingle size ")?;
+    number(rt, shape.shingle_size)?;
+    text(rt, b", capacity ")?;
+    number(rt, shape.capacity)?;
+    text(rt, b", start ")?;
+    number(rt, shape.initial_capacity)?;
     if shape.internal_shingling {
-        text(b", internal shingling");
+        text(rt, b", internal shingling")?;
     }
     if shape.internal_rotation {
-        text(b", rotation");
+        text(rt, b", rotation")?;
     }
     if shape.store_labels {
-        text(b", labels");
+        text(rt, b", labels")?;
     }
-    text(b": ");
+    text(rt, b": ")?;
     let d = r.answer;
-    done(d);
-    text(b"\n");
+    done(rt, d)?;
+    text(rt, b"\n")?;
     let b = r.block;
-    b
+    Ok(b)
 }
 
 pub fn opened(
+    rt: &impl Print,
     internal_shingling: bool,
     internal_rotation: bool,
     capacity: usize,
     initial_capacity: usize,
-) -> Block {
-    new_store(Shape {
-        dimensions: 4,
-        shingle_size: 2,
-        capacity,
-        initial_capacity,
-        internal_shingling,
-        internal_rotation,
-        store_labels: false,
-    })
+) -> io::Result<Block> {
+    new_store(
+        rt,
+        Shape {
+            dimensions: 4,
+            shingle_size: 2,
+            capacity,
+            initial_capacity,
+            internal_shingling,
+            internal_rotation,
+            store_labels: false,
+        },
+    )
 }
 
 // An add of two floats, with internal shingling.
-pub fn add_two(b: Block, x: usize, y: usize) -> Block {
+pub fn add_two(rt: &impl Print, b: Block, x: usize, y: usize) -> io::Result<Block> {
     let point = [word(x), word(y)];
     let r = add_row(b, &point[..], 0);
-    text(b"  add ");
-    number(x);
-    text(b" ");
-    number(y);
-    text(b": ");
+    text(rt, b"  add ")?;
+    number(rt, x)?;
+    text(rt, b" ")?;
+    number(rt, y)?;
+    text(rt, b": ")?;
     let a = r.answer;
-    added(a);
+    added(rt, a)?;
     let after = r.block;
-    free(after.store.start_free_region);
-    after
+    free(rt, after.store.start_free_region)?;
+    Ok(after)
 }
 
 // An add of a whole row.
-fn add_four(b: Block, x: usize, y: usize, z: usize, w: usize) -> Block {
+fn add_four(
+    rt: &impl Print,
+    b: Block,
+    x: usize,
+    y: usize,
+    z: usize,
+    w: usize,
+) -> io::Result<Block> {
     let point = [word(x), word(y), word(z), word(w)];
     let r = add_row(b, &point[..], 0);
-    text(b"  add ");
-    row(point);
-    text(b": ");
+    text(rt, b"  add ")?;
+    row(rt, point)?;
+    text(rt, b": ")?;
     let a = r.answer;
-    added(a);
+    added(rt, a)?;
     let after = r.block;
-    free(after.store.start_free_region);
-    after
+    free(rt, after.store.start_free_region)?;
+    Ok(after)
 }
 
-fn dec_one(b: Block, i: usize) -> Block {
+fn dec_one(rt: &impl Print, b: Block, i: usize) -> io::Result<Block> {
     let r = dec_point(b, i, NONE);
-    text(b"  dec ");
-    number(i);
-    text(b": ");
+    text(rt, b"  dec ")?;
+    number(rt, i)?;
+    text(rt, b": ")?;
     let d = r.answer;
-    done(d);
+    done(rt, d)?;
     let after = r.block;
-    free(after.store.start_free_region);
-    after
+    free(rt, after.store.start_free_region)?;
+    Ok(after)
 }
 
-fn compacted(b: Block) -> Block {
+fn compacted(rt: &impl Print, b: Block) -> io::Result<Block> {
     let r = compact_block(b);
-    text(b"  compact: ");
+    text(rt, b"  compact: ")?;
     let d = r.answer;
-    done(d);
+    done(rt, d)?;
     let after = r.block;
-    free(after.store.start_free_region);
-    after
+    free(rt, after.store.start_free_region)?;
+    Ok(after)
 }
 
-fn copied(b: Block, i: usize) {
+fn copied(rt: &impl Print, b: Block, i: usize) -> io::Result<()> {
     let mut given = [0u32; 4];
     copy_point(b, i, &mut given[..]);
-    text(b"  copy ");
-    number(i);
-    text(b": ");
-    row(given);
-    text(b"\n");
+    text(rt, b"  copy ")?;
+    number(rt, i)?;
+    text(rt, b": ")?;
+    row(rt, given)?;
+    text(rt, b"\n")
 }
 
-pub fn five_adds(b: Block) -> Block {
-    let b1 = add_two(b, 1, 2);
-    let b2 = add_two(b1, 3, 4);
-    let b3 = add_two(b2, 5, 6);
-    let b4 = add_two(b3, 7, 8);
-    add_two(b4, 9, 10)
+pub fn five_adds(rt: &impl Print, b: Block) -> io::Result<Block> {
+    let b1 = add_two(rt, b, 1, 2)?;
+    let b2 = add_two(rt, b1, 3, 4)?;
+    let b3 = add_two(rt, b2, 5, 6)?;
+    let b4 = add_two(rt, b3, 7, 8)?;
+    add_two(rt, b4, 9, 10)
 }
 
-pub fn without_rotation() {
-    text(b"A to E\n");
-    let b = five_adds(opened(true, false, 10, 5));
-    let d = compacted(dec_one(dec_one(b, 0), 1));
-    copied(d, 2);
-    copied(add_two(d, 11, 12), 0);
+pub fn without_rotation(rt: &impl Print) -> io::Result<()> {
+    text(rt, b"A to E\n")?;
+    let b = five_adds(rt, opened(rt, true, false, 10, 5)?)?;
+    let d = compacted(rt, dec_one(rt, dec_one(rt, b, 0)?, 1)?)?;
+    copied(rt, d, 2)?;
+    copied(rt, add_two(rt, d, 11, 12)?, 0)
 }
 
-pub fn rotating() {
-    text(b"F\n");
-    let f = opened(true, true, 10, 5);
-    let c = add_two(add_two(add_two(f, 1, 2), 3, 4), 5, 6);
-    copied(c, 1);
-    text(b"G\n");
-    let g = compacted(dec_one(five_adds(opened(true, true, 10, 5)), 0));
-    copied(g, 1);
-    text(b"  first floats: ");
+pub fn rotating(rt: &impl Print) -> io::Result<()> {
+    text(rt, b"F\n")?;
+    let f = opened(rt, true, true, 10, 5)?;
+    let c = add_two(rt, add_two(rt, add_two(rt, f, 1, 2)?, 3, 4)?, 5, 6)?;
+    copied(rt, c, 1)?;
+    text(rt, b"G\n")?;
+    let g = compacted(
+        rt,
+        dec_one(rt, five_adds(rt, opened(rt, true, true, 10, 5)?)?, 0)?,
+    )?;
+    copied(rt, g, 1)?;
+    text(rt, b"  first floats: ")?;
     let floats = g.floats;
-    row([floats[0], floats[1], floats[2], floats[3]]);
-    text(b"\n");
-    text(b"G, without rotation\n");
-    compacted(dec_one(five_adds(opened(true, false, 10, 5)), 0));
+    row(rt, [floats[0], floats[1], floats[2], floats[3]])?;
+    text(rt, b"\n")?;
+    text(rt, b"G, without rotation\n")?;
+    compacted(
+        rt,
+        dec_one(rt, five_adds(rt, opened(rt, true, false, 10, 5)?)?, 0)?,
+    )?;
+    Ok(())
 }
 
-fn before_the_last_row() -> Block {
-    let b = add_four(add_four(opened(false, true, 2, 2), 1, 2, 3, 4), 3, 4, 5, 6);
-    dec_one(b, 0)
+fn before_the_last_row(rt: &impl Print) -> io::Result<Block> {
+    let b = add_four(
+        rt,
+        add_four(rt, opened(rt, false, true, 2, 2)?, 1, 2, 3, 4)?,
+        3,
+        4,
+        5,
+        6,
+    )?;
+    dec_one(rt, b, 0)
 }
 
-pub fn refused_for_space() {
-    text(b"H\n");
-    add_four(before_the_last_row(), 9, 9, 9, 9);
-    text(b"H, another last row\n");
-    add_four(before_the_last_row(), 5, 6, 9, 9);
+pub fn refused_for_space(rt: &impl Print) -> io::Result<()> {
+    text(rt, b"H\n")?;
+    add_four(rt, before_the_last_row(rt)?, 9, 9, 9, 9)?;
+    text(rt, b"H, another last row\n")?;
+    add_four(rt, before_the_last_row(rt)?, 5, 6, 9, 9)?;
+    Ok(())
 }
 
-pub fn small_starts() {
-    text(b"start 4: a fifth index\n");
-    let b = five_adds(opened(true, false, 10, 4));
-    add_two(b, 11, 12);
-    text(b"start 5: a sixth index\n");
-    let c = five_adds(opened(true, false, 10, 5));
-    let d = add_two(c, 11, 12);
-    add_two(d, 1, 2);
+pub fn small_starts(rt: &impl Print) -> io::Result<()> {
+    text(rt, b"start 4: a fifth index\n")?;
+    let b = five_adds(rt, opened(rt, true, false, 10, 4)?)?;
+    add_two(rt, b, 11, 12)?;
+    text(rt, b"start 5: a sixth index\n")?;
+    let c = five_adds(rt, opened(rt, true, false, 10, 5)?)?;
+    let d = add_two(rt, c, 11, 12)?;
+    add_two(rt, d, 1, 2)?;
+    Ok(())
 }
 
 // The memory is the caller's: here it is lent with another count of index 0.
@@ -215,24 +243,30 @@ fn with_count(b: Block, count: u16) -> Block {
     }
 }
 
-fn inc_one(b: Block) -> Block {
+fn inc_one(rt: &impl Print, b: Block) -> io::Result<Block> {
     let r = inc_point(b, 0, NONE);
-    text(b"  inc 0: ");
+    text(rt, b"  inc 0: ")?;
     let d = r.answer;
-    done(d);
+    done(rt, d)?;
     let after = r.block;
-    text(b"; count ");
-    answer(count_point(after, 0));
-    text(b"\n");
-    after
+    text(rt, b"; count ")?;
+    answer(rt, count_point(after, 0))?;
+    text(rt, b"\n")?;
+    Ok(after)
 }
 
-pub fn largest_count() {
-    text(b"count 65,534 takes inc, 65,535 gives 7\n");
-    let b = add_two(add_two(opened(true, false, 10, 5), 1, 2), 3, 4);
+pub fn largest_count(rt: &impl Print) -> io::Result<()> {
+    text(rt, b"count 65,534 takes inc, 65,535 gives 7\n")?;
+    let b = add_two(
+        rt,
+        add_two(rt, opened(rt, true, false, 10, 5)?, 1, 2)?,
+        3,
+        4,
+    )?;
     let up = with_count(b, 65534);
-    text(b"  memory lent with count 65534 of index 0; count: ");
-    answer(count_point(up, 0));
-    text(b"\n");
-    inc_one(inc_one(up));
+    text(rt, b"  memory lent with count 65534 of index 0; count: ")?;
+    answer(rt, count_point(up, 0))?;
+    text(rt, b"\n")?;
+    inc_one(rt, inc_one(rt, up)?)?;
+    Ok(())
 }

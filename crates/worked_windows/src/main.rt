@@ -9,17 +9,19 @@ mod print;
 mod reading_cases;
 mod readings;
 
-fn main() {
-    cases::without_rotation();
-    cases::rotating();
-    cases::refused_for_space();
-    cases::small_starts();
-    cases::largest_count();
-    adjust_cases::pairs();
-    reading_cases::rows_read();
-    reading_cases::zeros_and_nans();
-    reading_cases::joined_by_bits();
-    preview_cases::previews();
-    reading_cases::labels_read();
-    reading_cases::loaded_classes();
+use std::io;
+
+fn main(rt: HostRuntime) -> io::Result<()> {
+    cases::without_rotation(&rt)?;
+    cases::rotating(&rt)?;
+    cases::refused_for_space(&rt)?;
+    cases::small_starts(&rt)?;
+    cases::largest_count(&rt)?;
+    adjust_cases::pairs(&rt)?;
+    reading_cases::rows_read(&rt)?;
+    reading_cases::zeros_and_nans(&rt)?;
+    reading_cases::joined_by_bits(&rt)?;
+    preview_cases::previews(&rt)?;
+    reading_cases::labels_read(&rt)?;
+    reading_cases::loaded_classes(&rt)
 }

@@ -1,6 +1,6 @@
 // Lines of the table: the call, its answer (of a kept add with how many indices are left), the free start after it.
-use libc::STDOUT_FILENO;
 use placement::Laid;
+use std::io;
 use store_definitions::{Added, Adjusted, Done, Equality, Kept, Number};
 use terms::{NONE, Refusal, refusal_number};
 
@@ -28,93 +28,92 @@ pub fn word(n: usize) -> u32 {
     0
 }
 
-pub fn text(t: &[u8]) {
-    io::write_all(STDOUT_FILENO, t);
+pub fn text(rt: &impl Print, t: &[u8]) -> io::Result<()> {
+    rt.write_all(t)
 }
 
-pub fn number(n: usize) {
-    io::print_decimal(STDOUT_FILENO, n as u64);
+pub fn number(rt: &impl Print, n: usize) -> io::Result<()> {
+    rt.print(n)
 }
 
-fn refusal(r: Refusal) {
-    text(b"refused ");
-    number(refusal_number(r) as usize);
+fn refusal(rt: &impl Print, r: Refusal) -> io::Result<()> {
+    text(rt, b"refused ")?;
+    number(rt, refusal_number(r) as usize)
 }
 
-fn laid(l: Laid) {
+fn laid(rt: &impl Print, l: Laid) -> io::Result<()> {
     match l {
         Laid::Whole(place) => {
-            text(b", whole at place ");
-            number(place);
+            text(rt, b", whole at place ")?;
+            number(rt, place)
         }
         Laid::Joined(place) => {
-            text(b", joined at place ");
-            number(place);
+            text(rt, b", joined at place ")?;
+            number(rt, place)
         }
     }
 }
 
-fn kept(k: Kept) {
-    text(b"index ");
+fn kept(rt: &impl Print, k: Kept) -> io::Result<()> {
+    text(rt, b"index ")?;
     let index = k.index;
-    number(index.0);
+    number(rt, index.0)?;
     let label = k.label;
     if label.0 != NONE {
-        text(b", label index ");
-        number(label.0);
+        text(rt, b", label index ")?;
+        number(rt, label.0)?;
     }
     let how = k.laid;
-    laid(how);
-    text(b", left ");
-    number(k.free_indices);
+    laid(rt, how)?;
+    text(rt, b", left ")?;
+    number(rt, k.free_indices)
 }
 
-pub fn added(a: Added) {
+pub fn added(rt: &impl Print, a: Added) -> io::Result<()> {
     match a {
-        Added::Kept(k) => kept(k),
-        Added::Waiting => text(b"waiting"),
-        Added::Refused(r) => refusal(r),
+        Added::Kept(k) => kept(rt, k),
+        Added::Waiting => text(rt, b"waiting"),
+        Added::Refused(r) => refusal(rt, r),
     }
 }
 
-pub fn done(d: Done) {
+pub fn done(rt: &impl Print, d: Done) -> io::Result<()> {
     match d {
-        Done::Done => text(b"done"),
-        Done::Refused(r) => refusal(r),
+        Done::Done => text(rt, b"done"),
+        Done::Refused(r) => refusal(rt, r),
     }
 }
 
-pub fn adjusted(a: Adjusted) {
+pub fn adjusted(rt: &impl Print, a: Adjusted) -> io::Result<()> {
     match a {
-        Adjusted::Done => text(b"done"),
+        Adjusted::Done => text(rt, b"done"),
         Adjusted::Refused(r, pairs) => {
-            refusal(r);
-            text(b" after ");
-            number(pairs);
-            text(b" pairs");
+            refusal(rt, r)?;
+            text(rt, b" after ")?;
+            number(rt, pairs)?;
+            text(rt, b" pairs")
         }
     }
 }
 
-pub fn answer(n: Number) {
+pub fn answer(rt: &impl Print, n: Number) -> io::Result<()> {
     match n {
-        Number::Is(k) => number(k),
-        Number::Refused(r) => refusal(r),
+        Number::Is(k) => number(rt, k),
+        Number::Refused(r) => refusal(rt, r),
     }
 }
 
-fn truth(b: bool) {
+fn truth(rt: &impl Print, b: bool) -> io::Result<()> {
     if b {
-        text(b"true");
-        return;
+        return text(rt, b"true");
     }
-    text(b"false");
+    text(rt, b"false")
 }
 
-pub fn equality(e: Equality) {
+pub fn equality(rt: &impl Print, e: Equality) -> io::Result<()> {
     match e {
-        Equality::Is(b) => truth(b),
-        Equality::Refused(r) => refusal(r),
+        Equality::Is(b) => truth(rt, b),
+        Equality::Refused(r) => refusal(rt, r),
     }
 }
 
@@ -130,38 +129,38 @@ fn shown(w: u32) -> usize {
     n
 }
 
-pub fn float(w: u32) {
+pub fn float(rt: &impl Print, w: u32) -> io::Result<()> {
     let n = shown(w);
     if n < 13 {
-        number(n);
-        return;
+        return number(rt, n);
     }
-    text(b"?");
+    text(rt, b"?")
 }
 
-pub fn row(r: [u32; 4]) {
-    float(r[0]);
-    text(b" ");
-    float(r[1]);
-    text(b" ");
-    float(r[2]);
-    text(b" ");
-    float(r[3]);
+pub fn row(rt: &impl Print, r: [u32; 4]) -> io::Result<()> {
+    float(rt, r[0])?;
+    text(rt, b" ")?;
+    float(rt, r[1])?;
+    text(rt, b" ")?;
+    float(rt, r[2])?;
+    text(rt, b" ")?;
+    float(rt, r[3])
 }
 
 // Any number of floats, each after a space.
-pub fn vector(v: &[u32]) {
+pub fn vector(rt: &impl Print, v: &[u32]) -> io::Result<()> {
     let mut i: usize = 0;
     while i < v.len() {
-        text(b" ");
-        float(v[i]);
+        text(rt, b" ")?;
+        float(rt, v[i])?;
         i += 1;
     }
+    Ok(())
 }
 
 // The end of a line: the free start after the call.
-pub fn free(start: usize) {
-    text(b"; free start ");
-    number(start);
-    text(b"\n");
+pub fn free(rt: &impl Print, start: usize) -> io::Result<()> {
+    text(rt, b"; free start ")?;
+    number(rt, start)?;
+    text(rt, b"\n")
 }

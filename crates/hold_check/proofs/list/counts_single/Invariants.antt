@@ -1,0 +1,12 @@
+-- The invariant: what holds of the entries below i.
+use Rattle.std.proofs.Common.{◌≡◌, ℕ, ◌-◌, ◌≤◌, ltb, get_or, refl, arith, rules}
+use Rattle.terms.specs.Below.{every_below}
+use Rattle.hold_check.specs.Rising.{single_counts}
+use Rattle.hold_check.proofs.TestLaws.{every_more}
+use Rattle.hold_check.proofs.list.counts_single.Given as goal
+
+abbrev pub invariant-loop-i : goal.invariant-loop-i
+invariant-loop-i l = (l.i ≤ l.n) × (l.ok ≡ single_counts l.i l.counts)
+
+abbrev pub decreases-loop-i : goal.decreases-loop-i
+decreases-loop-i l = l.n - l.i

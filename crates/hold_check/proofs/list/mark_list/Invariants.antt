@@ -1,0 +1,11 @@
+-- The invariant: what is found of the entries before k, which are marked.
+use Rattle.std.proofs.Common.{◌≡◌, ℕ, suc, ◌+◌, ◌-◌, ◌≤◌, [], ◌∷◌, ◌++◌, length, get_or, take, refl, ap, ◌∙◌, add-one, arith, take-suc, rules}
+use Rattle.hold_definitions.specs.Listed.{every_named}
+use Rattle.hold_check.specs.ListedOnce.{listed_once, Marks, marks_none, marks_more, listed_more}
+use Rattle.hold_check.proofs.list.mark_list.Given as goal
+
+abbrev pub invariant-loop-k : goal.invariant-loop-k
+invariant-loop-k l = (l.k ≤ l.held) × ((length l.marks ≡ length l.initial.marks) × ((l.ok ≡ listed_once l.limit l.counts (take l.k l.list)) × Marks l.limit (take l.k l.list) l.marks))
+
+abbrev pub decreases-loop-k : goal.decreases-loop-k
+decreases-loop-k l = l.held - l.k

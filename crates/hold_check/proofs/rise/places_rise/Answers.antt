@@ -1,0 +1,25 @@
+-- The invariant: where no place fell, those of the entries before k rise.
+use Rattle.std.proofs.Common.{◌≡◌, ℕ, suc, ◌+◌, ◌-◌, ◌<◌, ◌≤◌, true, ◌&&◌, eqb, ltb, leb, length, get_or, take, sym, refl, ap, ◌∙◌, arith, rules, ltb-true, eqb-true, leb-true}
+use mathlib.Core.Bool.{false≢true}
+use Rattle.terms.specs.Below.{both, every_below, every_at}
+use Rattle.hold_check.specs.Rising.{Rises, rises_none, rises_within}
+use Rattle.hold_check.proofs.RiseLaws.{fall_most, rises_step}
+use Rattle.hold_check.proofs.rise.places_rise.Goals as goal
+
+pub loop-k-init : goal.loop-k-init
+loop-k-init c = (omega arith, (omega arith, λ z. rises_none c.args.n 0 c.args.location.now))
+
+pub bounds-location-entry : goal.bounds-location-entry
+bounds-location-entry c =
+    let a = c.args in
+    let k = c.loop-k.k in
+    let inside = ltb-true (get_or a.list.now k 0) a.n (every_at a.held (λ (j : ℕ). ltb (get_or a.list.now j 0) a.n) (sym c.listed_below.ensures ∙ c.if-listed_below.true) k c.loop-k-test.true) in
+    omega (arith, c.requires.1.0, inside)
+
+pub loop-k-preserved : goal.loop-k-preserved
+loop-k-preserved c =
+    let a = c.args in
+    let l = c.loop-k in
+    let inside = ltb-true (get_or a.list.now l.k 0) a.n (every_at a.held (λ (j : ℕ). ltb (get_or a.list.now j 0) a.n) (sym c.listed_below.ensures ∙ c.if-listed_below.true) l.k c.loop-k-test.true) in
+    let lent : suc l.k ≤ length a.list.now = omega (arith, c.requires.1.1, c.loop-k-test.true) in
+    (omega arith, (omega (arith, fall_most (ltb (get_or a.location.now (get_or a.list.now l.k 0) 0) l.next)), rises_step a.n l.next a.location.now a.list.now l.k l.falls l.invariant.1.1 lent inside))

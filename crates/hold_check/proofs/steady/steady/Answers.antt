@@ -1,0 +1,42 @@
+-- The tests in turn, and then the law of a hold as its own calls leave it.
+use Rattle.std.proofs.Common.{sym, ◌∙◌, arith, rules}
+use mathlib.Core.Bool.{false≢true}
+use Rattle.interval_store_manager.specs.Sound.{free_le_capacity}
+use Rattle.store_definitions.specs.Parts.{table_length}
+use Rattle.hold_check.specs.Steady.{steady_found}
+use Rattle.hold_check.proofs.SteadyLaws.{few_tested, table_most, shingles, counts_room, places_room, row_most}
+use Rattle.hold_check.proofs.steady.steady.Goals as goal
+
+pub pair_of-pair-requires : goal.pair_of-pair-requires
+pair_of-pair-requires c =
+    let start = c in
+    let a = start.args in
+    let f = few_tested (table_length a.s) a.s.index_manager.last_in_use a.index_starts.now a.index_ends.now c.lent_enough-lent.result c.lent_enough-lent.ensures c.if-lent-count.true in
+    (f.some, (f.within, (table_most a.s a.reference_count.now a.location.now start.requires.0, (f.starts_lent, f.ends_lent))))
+
+pub overflow_sub-n : goal.overflow_sub-n
+overflow_sub-n c =
+    let start = c in
+    let a = start.args in
+    let pair = c.pair_of-pair.ensures c.if-paired.true in
+    omega (arith, pair.number, free_le_capacity (table_length a.s) a.s.index_manager.last_in_use a.index_starts.now a.index_ends.now)
+
+pub nonzero_div-base : goal.nonzero_div-base
+nonzero_div-base c =
+    let start = c in
+    let a = start.args in
+    omega (arith, shingles a.s a.reference_count.now a.location.now start.requires.0)
+
+pub last_ends-requires : goal.last_ends-requires
+last_ends-requires c =
+    let start = c in
+    let a = start.args in
+    (row_most a.s a.reference_count.now a.location.now start.requires.0, start.requires.1)
+
+pub returns-then-runs_rise : goal.returns-then-runs_rise
+returns-then-runs_rise c =
+    let start = c in
+    let a = start.args in
+    let pair = c.pair_of-pair in
+    λ t.
+    steady_found a.s a.reference_count.now a.location.now a.index_starts.now a.index_ends.now a.held_indices.now a.held pair.result.start pair.result.more pair.result.other pair.result.further pair.result.free start.requires.0 start.requires.1 (pair.ensures c.if-paired.true) c.if-n-pair.true (sym c.entries_held.ensures ∙ c.if-entries_held.true) (c.runs_rise.ensures c.if-runs_rise.true) (c.last_ends.ensures t)

@@ -1,0 +1,11 @@
+-- A line of three fields of six columns has 19 bytes.
+use mathlib.Core.List.{[], ◌∷◌}
+use native.Mathlib.Omega.{arith}
+use Rattle.decimal.proofs.LinesLaws.{length_line}
+use borrow.Author.Rules.{rules}
+use Rattle.page.proofs.lines.put_point.Goals as goal
+
+pub put_line-requires : goal.put_line-requires
+put_line-requires c =
+    let s = c in
+    omega (arith, s.requires, length_line 6 (s.args.index ∷ s.args.count ∷ s.args.place ∷ []))

@@ -1,2 +1,0 @@
-mod AdjustParameters
-mod SumParameters

@@ -1,0 +1,18 @@
+-- The invariant: what was found of the first k.
+use Prim.Native.Nat.{ℕ, ◌-◌, ◌≤◌}
+use native.Mathlib.Omega.{arith}
+use mathlib.Core.Path.{◌≡◌, refl, sym, ap, ◌∙◌}
+use mathlib.Core.Bool.{Bool, ◌&&◌}
+use lib.ListN.{length, get_or}
+use lib.Dec.{leb}
+use borrow.Author.Rules.{rules}
+use Rattle.terms.specs.Below.{every_below}
+use Rattle.probes_definitions.specs.WellFormed.{tallies_within}
+use Rattle.probes_check.specs.CheckLaws.{every_more}
+use Rattle.probes_check.proofs.check.tallies_within.Given as goal
+
+abbrev pub invariant-loop-k : goal.invariant-loop-k
+invariant-loop-k l = (l.k ≤ 8) × (l.within ≡ every_below l.k (λ j. leb (get_or l.tallies j 0) l.sequence))
+
+abbrev pub decreases-loop-k : goal.decreases-loop-k
+decreases-loop-k l = 8 - l.k

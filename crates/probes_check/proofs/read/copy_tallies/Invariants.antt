@@ -1,0 +1,14 @@
+-- The invariant: the first k entries are copied.
+use Prim.Native.Nat.{◌-◌, ◌≤◌}
+use native.Mathlib.Omega.{arith}
+use mathlib.Core.Path.{◌≡◌, refl, sym, ◌∙◌}
+use lib.ListN.{length, get_or, take, length-set}
+use borrow.Author.Rules.{rules}
+use Rattle.probes_check.specs.CheckLaws.{copied_more, copied_all}
+use Rattle.probes_check.proofs.read.copy_tallies.Given as goal
+
+abbrev pub invariant-loop-k : goal.invariant-loop-k
+invariant-loop-k l = (l.k ≤ 8) × ((length l.out ≡ 8) × (take l.k l.out ≡ take l.k l.tallies))
+
+abbrev pub decreases-loop-k : goal.decreases-loop-k
+decreases-loop-k l = 8 - l.k

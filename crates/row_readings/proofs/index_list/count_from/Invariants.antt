@@ -1,0 +1,17 @@
+-- The loop's invariant: the first i entries are written.
+use Prim.Native.Nat.{ℕ, ◌+◌, ◌-◌, ◌≤◌}
+use native.Mathlib.Omega.{arith}
+use mathlib.Core.List.{[], map}
+use mathlib.Core.Path.{◌≡◌, refl, sym, ap, ◌∙◌}
+use lib.ListN.{length, take, length-set}
+use lib.Seq.{take_all}
+use borrow.Author.Rules.{rules}
+use Rattle.store_definitions.specs.IndexLists.{up_to}
+use Rattle.row_readings.proofs.ListTurns.{count_turn}
+use Rattle.row_readings.proofs.index_list.count_from.Given as goal
+
+abbrev pub invariant-loop-i : goal.invariant-loop-i
+invariant-loop-i l = (l.i ≤ length l.out) × (length l.out ≡ length l.initial.out) × (take l.i l.out ≡ map (λ v. l.first + v) (up_to l.i []))
+
+abbrev pub decreases-loop-i : goal.decreases-loop-i
+decreases-loop-i l = length l.out - l.i

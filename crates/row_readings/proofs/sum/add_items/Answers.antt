@@ -1,0 +1,28 @@
+-- A turn is one item: the rest of the list is added to the sums so far.
+use borrow.Author.Rules.{rules, scaled_Fits}
+use Prim.Native.Nat.{◌+◌, ◌-◌, ◌≤◌, zero-le}
+use native.Mathlib.Nat.{lt_of_le_of_lt}
+use native.Mathlib.Numerals.{add-one-le}
+use mathlib.Core.List.{List, []}
+use mathlib.Core.Path.{◌≡◌, refl, sym, ap, ◌∙◌}
+use lib.Ieee.{Float}
+use lib.ListN.{length, drop}
+use borrow.Author.Count.{falls}
+use Rattle.float_bits.specs.Rows.{add_scaled}
+use Rattle.store_definitions.specs.Memory.{point_store, rows_alone}
+use Rattle.store_definitions.specs.Sums.{summed}
+use Rattle.row_readings.specs.Items.{weightings}
+use Rattle.row_readings.specs.SumLaws.{next_added, none_added}
+use Rattle.row_readings.proofs.sum.add_items.Goals as goal
+
+pub loop-i-preserved : goal.loop-i-preserved
+loop-i-preserved c =
+    let a = c.args in
+    let at = c.loop-i in
+    (add-one-le c.loop-i-test.true, c.add_item.auto.out ∙ at.invariant.1, ap (λ (sums : List Float). summed add_scaled (point_store a.s (rows_alone a.store.now [] a.location.now)) (weightings (drop (at.i + 1) a.items.now)) sums) c.add_item.ensures ∙ sym (next_added (point_store a.s (rows_alone a.store.now [] a.location.now)) a.items.now at.i c.loop-i-test.true add_scaled at.out) ∙ at.invariant.2)
+
+pub returns : goal.returns
+returns c =
+    let a = c.args in
+    let at = c.loop-i in
+    sym (none_added (point_store a.s (rows_alone a.store.now [] a.location.now)) add_scaled a.items.now at.i at.out c.loop-i-test.false) ∙ at.invariant.2

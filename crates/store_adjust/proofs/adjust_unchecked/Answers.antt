@@ -1,0 +1,38 @@
+-- A turn is one pair: the rest of the list comes to what the whole comes to.
+use Prim.Native.Nat.{◌-◌}
+use native.Mathlib.Nat.{lt_of_le_of_lt}
+use native.Mathlib.Numerals.{add-one-le}
+use mathlib.Core.Path.{◌∙◌, ap}
+use lib.ListN.{length}
+use borrow.Author.Rules.{rules, scaled_Fits}
+use borrow.Author.Count.{falls}
+use Rattle.store_definitions.specs.Answers.{done_means}
+use Rattle.store_definitions.specs.Memory.{point_store}
+use Rattle.store_adjust.specs.Pairs.{listed}
+use Rattle.store_adjust.specs.Run.{State, start, stop, next, finish}
+use Rattle.store_adjust.proofs.adjust_unchecked.Goals as goal
+
+pub loop-i-init : goal.loop-i-init
+loop-i-init c = start _ _ c.requires
+
+pub returns-in-Refused : goal.returns-in-Refused
+returns-in-Refused c = stop _ _ _ _ c.loop-i.invariant c.loop-i-test.true _ c.adjust_pair-result.ensures _ (ap done_means c.in-Refused.is)
+
+pub loop-i-preserved : goal.loop-i-preserved
+loop-i-preserved c =
+    next _ _ _ _ c.loop-i.invariant c.loop-i-test.true _ c.adjust_pair-result.ensures (ap done_means c.in_default.is)
+    (record {
+      counts = c.adjust_pair-result.auto.reference_count;
+      location = c.adjust_pair-result.auto.location;
+      starts = c.adjust_pair-result.auto.index_starts;
+      ends = c.adjust_pair-result.auto.index_ends;
+      label_counts = c.adjust_pair-result.auto.label_count;
+      label_starts = c.adjust_pair-result.auto.label_starts;
+      label_ends = c.adjust_pair-result.auto.label_ends;
+      slot_counts = c.adjust_pair-result.auto.attribute_count;
+      slot_starts = c.adjust_pair-result.auto.attribute_starts;
+      slot_ends = c.adjust_pair-result.auto.attribute_ends;
+    })
+
+pub returns : goal.returns
+returns c = finish _ _ _ _ c.loop-i.invariant c.loop-i-test.false

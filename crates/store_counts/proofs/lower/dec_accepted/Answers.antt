@@ -1,0 +1,30 @@
+-- The point, and with labels on the label.
+use Rattle.store_definitions.specs.Memory.{point_store}
+use Rattle.store_check.specs.Tables.{tables}
+use Rattle.store_counts.specs.CallLaws.{dec_point_ready, dec_label_ready, dec_on, dec_off}
+use Rattle.store_counts.proofs.lower.dec_accepted.Goals as goal
+
+pub lower_point-index_after-requires : goal.lower_point-index_after-requires
+lower_point-index_after-requires c =
+    let a = c.args in
+    let p = point_store a.s (tables a.floats a.window a.reference_count.now a.location.now a.index_starts.now a.index_ends.now a.labels.now a.label_attributes.now a.label_count.now a.label_starts.now a.label_ends.now a.attributes.now a.attribute_count.now a.attribute_starts.now a.attribute_ends.now) in
+    dec_point_ready p c.requires.0 a.index.0 a.label.0 c.requires.1
+
+pub dec_label-lowered-requires : goal.dec_label-lowered-requires
+dec_label-lowered-requires c =
+    let a = c.args in
+    let p = point_store a.s (tables a.floats a.window a.reference_count.now a.location.now a.index_starts.now a.index_ends.now a.labels.now a.label_attributes.now a.label_count.now a.label_starts.now a.label_ends.now a.attributes.now a.attribute_count.now a.attribute_starts.now a.attribute_ends.now) in
+    let r = dec_label_ready p c.requires.0 a.index.0 a.label.0 c.requires.1 c.if-s.true in
+    (r.well, (r.below, r.counted))
+
+pub returns-then-s : goal.returns-then-s
+returns-then-s c =
+    let a = c.args in
+    let p = point_store a.s (tables a.floats a.window a.reference_count.now a.location.now a.index_starts.now a.index_ends.now a.labels.now a.label_attributes.now a.label_count.now a.label_starts.now a.label_ends.now a.attributes.now a.attribute_count.now a.attribute_starts.now a.attribute_ends.now) in
+    dec_on p a.index.0 a.label.0 _ c.lower_point-index_after.ensures.0 _ c.lower_point-index_after.ensures.1 c.if-s.true _ c.dec_label-lowered.ensures
+
+pub returns : goal.returns
+returns c =
+    let a = c.args in
+    let p = point_store a.s (tables a.floats a.window a.reference_count.now a.location.now a.index_starts.now a.index_ends.now a.labels.now a.label_attributes.now a.label_count.now a.label_starts.now a.label_ends.now a.attributes.now a.attribute_count.now a.attribute_starts.now a.attribute_ends.now) in
+    dec_off p a.index.0 a.label.0 _ c.lower_point-index_after.ensures.0 _ c.lower_point-index_after.ensures.1 c.if-s.false

@@ -1,0 +1,25 @@
+-- The decision, carried out.
+use borrow.Author.Rules.{rules}
+use mathlib.Core.Path.{refl}
+use Rattle.store_definitions.specs.Memory.{point_store}
+use Rattle.store_check.specs.Tables.{tables}
+use Rattle.store_counts.specs.CallLaws.{dec_goes, dec_went, dec_refused}
+use Rattle.store_counts.proofs.lower.dec_unchecked.Goals as goal
+
+pub dec_accepted-store-requires : goal.dec_accepted-store-requires
+dec_accepted-store-requires c =
+    let a = c.args in
+    let p = point_store a.s (tables a.floats a.window a.reference_count.now a.location.now a.index_starts.now a.index_ends.now a.labels.now a.label_attributes.now a.label_count.now a.label_starts.now a.label_ends.now a.attributes.now a.attribute_count.now a.attribute_starts.now a.attribute_ends.now) in
+    (c.requires, dec_goes p a.index.0 a.label.0 c.requires _ c.dec_test-d.ensures c.in-Go.is)
+
+pub returns-in-Refuse : goal.returns-in-Refuse
+returns-in-Refuse c =
+    let a = c.args in
+    let p = point_store a.s (tables a.floats a.window a.reference_count.now a.location.now a.index_starts.now a.index_ends.now a.labels.now a.label_attributes.now a.label_count.now a.label_starts.now a.label_ends.now a.attributes.now a.attribute_count.now a.attribute_starts.now a.attribute_ends.now) in
+    dec_refused p a.index.0 a.label.0 c.requires _ c.dec_test-d.ensures _ c.in-Refuse.is
+
+pub returns-in-Go : goal.returns-in-Go
+returns-in-Go c =
+    let a = c.args in
+    let p = point_store a.s (tables a.floats a.window a.reference_count.now a.location.now a.index_starts.now a.index_ends.now a.labels.now a.label_attributes.now a.label_count.now a.label_starts.now a.label_ends.now a.attributes.now a.attribute_count.now a.attribute_starts.now a.attribute_ends.now) in
+    dec_went p a.index.0 a.label.0 c.requires _ c.dec_test-d.ensures c.in-Go.is _ c.dec_accepted-store.ensures

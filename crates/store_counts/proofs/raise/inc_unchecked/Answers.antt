@@ -1,0 +1,25 @@
+-- The decision, carried out.
+use borrow.Author.Rules.{rules}
+use mathlib.Core.Path.{refl}
+use Rattle.store_definitions.specs.Memory.{point_store}
+use Rattle.store_check.specs.Tables.{tables}
+use Rattle.store_counts.specs.CallLaws.{inc_goes, inc_went, inc_refused}
+use Rattle.store_counts.proofs.raise.inc_unchecked.Goals as goal
+
+pub inc_accepted-requires : goal.inc_accepted-requires
+inc_accepted-requires c =
+    let a = c.args in
+    let p = point_store a.s (tables a.floats a.window a.reference_count.now a.location.now a.index_starts.now a.index_ends.now a.labels.now a.label_attributes.now a.label_count.now a.label_starts.now a.label_ends.now a.attributes.now a.attribute_count.now a.attribute_starts.now a.attribute_ends.now) in
+    (c.requires, inc_goes p a.index.0 a.label.0 c.requires _ c.inc_test-d.ensures c.in-Go.is)
+
+pub returns-in-Refuse : goal.returns-in-Refuse
+returns-in-Refuse c =
+    let a = c.args in
+    let p = point_store a.s (tables a.floats a.window a.reference_count.now a.location.now a.index_starts.now a.index_ends.now a.labels.now a.label_attributes.now a.label_count.now a.label_starts.now a.label_ends.now a.attributes.now a.attribute_count.now a.attribute_starts.now a.attribute_ends.now) in
+    inc_refused p a.index.0 a.label.0 c.requires _ c.inc_test-d.ensures _ c.in-Refuse.is
+
+pub returns-in-Go : goal.returns-in-Go
+returns-in-Go c =
+    let a = c.args in
+    let p = point_store a.s (tables a.floats a.window a.reference_count.now a.location.now a.index_starts.now a.index_ends.now a.labels.now a.label_attributes.now a.label_count.now a.label_starts.now a.label_ends.now a.attributes.now a.attribute_count.now a.attribute_starts.now a.attribute_ends.now) in
+    inc_went p a.index.0 a.label.0 c.requires _ c.inc_test-d.ensures c.in-Go.is _ c.inc_accepted.ensures
