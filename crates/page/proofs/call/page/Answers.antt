@@ -3,8 +3,7 @@ use mathlib.Core.Path.{sym, ◌∙◌}
 use Rattle.store_definitions.specs.Lent.{held}
 use Rattle.store_definitions.specs.Memory.{point_store}
 use Rattle.store_check.specs.CheckLaws.{well_formed_lengths}
-use Rattle.page.specs.Writing.{page_ill, page_well, readable}
-use borrow.Author.Rules.{rules}
+use Rattle.page.proofs.WritingLaws.{page_ill, page_well, readable}
 use Rattle.page.proofs.call.page.Goals as goal
 
 pub page_unchecked-requires : goal.page_unchecked-requires

@@ -1,7 +1,6 @@
 -- The ways out are laws of `Writing`.
 use native.Mathlib.Omega.{arith}
-use Rattle.page.specs.Writing.{live_lines, live_most, too_short, page_laid}
-use borrow.Author.Rules.{rules}
+use Rattle.page.proofs.WritingLaws.{live_lines, live_most, too_short, page_laid}
 use Rattle.page.proofs.lines.page_unchecked.Goals as goal
 
 pub overflow_mul-length : goal.overflow_mul-length

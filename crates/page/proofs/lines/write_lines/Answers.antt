@@ -1,9 +1,6 @@
 -- The loop keeps `Written`.
-use borrow.Author.Rules.{rules}
-use Prim.Native.Nat.{◌-◌}
-use mathlib.Core.Logic.{⊎_elim}
 use native.Mathlib.Omega.{arith}
-use Rattle.page.specs.Writing.{Written, none_written, room_for_one, line_written, line_skipped, all_written}
+use Rattle.page.proofs.WritingLaws.{none_written, room_for_one, line_written, line_skipped}
 use Rattle.page.proofs.lines.write_lines.Goals as goal
 use Rattle.page.proofs.lines.write_lines.Goals.{then-count-gt0, else-count-gt0}
 

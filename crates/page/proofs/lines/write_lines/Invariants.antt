@@ -1,9 +1,6 @@
 -- The loop keeps `Written`.
-use borrow.Author.Rules.{rules}
 use Prim.Native.Nat.{◌-◌}
-use mathlib.Core.Logic.{⊎_elim}
-use native.Mathlib.Omega.{arith}
-use Rattle.page.specs.Writing.{Written, none_written, room_for_one, line_written, line_skipped, all_written}
+use Rattle.page.proofs.WritingLaws.{Written}
 use Rattle.page.proofs.lines.write_lines.Given as goal
 
 abbrev pub invariant-loop-i : goal.invariant-loop-i

@@ -13,7 +13,8 @@ use Rattle.store_definitions.specs.Memory.{PointStore}
 use Rattle.store_definitions.specs.Parts.{table_length, point_table}
 use Rattle.store_definitions.specs.WellFormed.{well_formed}
 use Rattle.store_laws.specs.Sound.{Sound, sound, place_ends}
-use Rattle.page.specs.Listed.{listed, row_of, length_listed, listed_fit, listed_row, listed_same, listed_beyond}
+use Rattle.page.specs.Listed.{listed, row_of}
+use Rattle.page.proofs.ListedLaws.{length_listed, listed_fit, listed_row, listed_same, listed_beyond}
 use Rattle.page.specs.Page.{counted, cells, page_text, page_of}
 
 abbrev count_of : {E : Type 0} → PointStore E → ℕ → ℕ

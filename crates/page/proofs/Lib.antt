@@ -1,0 +1,3 @@
+pub mod ListedLaws
+pub mod PageLaws
+pub mod WritingLaws
