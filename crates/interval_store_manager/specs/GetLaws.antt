@@ -1,6 +1,6 @@
 -- Laws of get, for every manager and stack: which of its two forms applies, what it leaves free, how many, and that the
 -- manager stays well-formed.
-use Rattle.std.specs.Prelude.{ℕ, ◌+◌, ◌-◌, ◌≤◌, ◌<◌, List, true, not, ◌&&◌, ◌≡◌, refl, get_or, set, eqb}
+use Rattle.std.specs.Prelude.{ℕ, ◌+◌, ◌-◌, ◌≤◌, ◌<◌, List, true, not, ◌&&◌, ◌≡◌, refl, set, eqb}
 use Rattle.std.proofs.Common.{arith, sym, ◌∙◌, length-set}
 use Rattle.std.proofs.Math.Decide.{dec_lt}
 use Rattle.std.proofs.Math.Path.{ap}

@@ -1,6 +1,6 @@
 -- What the check in one linear pass asks of each label and of each slot, given marks of the free indices and the sums of
 -- the slots' counts, and that all of it together is well-formedness.
-use Rattle.std.specs.Prelude.{ℕ, ◌≤◌, ◌<◌, List, Bool, true, false, cond, ◌&&◌, ◌≡◌, refl, length, get_or, leb, ltb, eqb}
+use Rattle.std.specs.Prelude.{ℕ, ◌≤◌, ◌<◌, List, Bool, true, false, cond, ◌&&◌, ◌≡◌, refl, get_or, leb, ltb, eqb}
 use Rattle.std.proofs.Common.{arith, ◌∙◌, ap}
 use Rattle.std.proofs.Math.Path.{sym}
 use borrow.Author.Tests.{eq-eqb, eqb-true, le-leb, leb-true, lt-ltb, ltb-true}

@@ -1,6 +1,6 @@
 -- A label's class answer is its code's class for as long as it is live: it is so in every well-formed label half, and no
 -- operation changes the code of a label that is live before and after.
-use Rattle.std.specs.Prelude.{ℕ, ◌≤◌, ◌<◌, List, true, ◌≡◌, get_or}
+use Rattle.std.specs.Prelude.{ℕ, ◌<◌, List, true, ◌≡◌, get_or}
 use Rattle.std.proofs.Math.Path.{refl}
 use Rattle.std.proofs.Common.{sym, ◌∙◌, ap, lt-ltb}
 use Rattle.labels.specs.Classes.{class_of}

@@ -1,10 +1,6 @@
 -- The loop keeps that the codes passed have their classes.
-use borrow.Author.Rules.{scaled_Fits}
-use Prim.Native.Nat.{◌-◌, ◌≤◌}
 use native.Mathlib.Omega.{arith}
-use mathlib.Core.Path.{◌≡◌, refl, ◌∙◌}
-use lib.ListN.{length, take, drop, length-set}
-use Rattle.class_words.specs.WordsLaws.{small, class_read, classes_read}
+use Rattle.class_words.specs.WordsLaws.{small}
 use Rattle.class_words.proofs.classes_in.Goals as goal
 
 pub overflow_cast-classes : goal.overflow_cast-classes

@@ -1,10 +1,7 @@
 -- The loop keeps that the codes passed have their classes.
-use borrow.Author.Rules.{scaled_Fits}
 use Prim.Native.Nat.{◌-◌, ◌≤◌}
-use native.Mathlib.Omega.{arith}
-use mathlib.Core.Path.{◌≡◌, refl, ◌∙◌}
-use lib.ListN.{length, take, drop, length-set}
-use Rattle.class_words.specs.WordsLaws.{small, class_read, classes_read}
+use mathlib.Core.Path.{◌≡◌}
+use lib.ListN.{length, take, drop}
 use Rattle.class_words.proofs.classes_in.Given as goal
 
 abbrev pub invariant-loop-code : goal.invariant-loop-code

@@ -1,9 +1,6 @@
 -- The loop keeps the test of the codes passed.
-use borrow.Author.Rules.{scaled_Fits}
-use Prim.Native.Nat.{◌-◌, ◌≤◌}
 use native.Mathlib.Omega.{arith}
-use mathlib.Core.Path.{◌≡◌}
-use Rattle.class_words.specs.WordsLaws.{small_below, none_small, one_small, all_small}
+use Rattle.class_words.specs.WordsLaws.{none_small, one_small, all_small}
 use Rattle.class_words.proofs.classes_legal.Goals as goal
 
 pub loop-code-init : goal.loop-code-init

@@ -1,9 +1,7 @@
 -- The loop keeps the test of the codes passed.
-use borrow.Author.Rules.{scaled_Fits}
 use Prim.Native.Nat.{◌-◌, ◌≤◌}
-use native.Mathlib.Omega.{arith}
 use mathlib.Core.Path.{◌≡◌}
-use Rattle.class_words.specs.WordsLaws.{small_below, none_small, one_small, all_small}
+use Rattle.class_words.specs.WordsLaws.{small_below}
 use Rattle.class_words.proofs.classes_legal.Given as goal
 
 abbrev pub invariant-loop-code : goal.invariant-loop-code

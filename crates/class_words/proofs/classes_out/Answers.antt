@@ -1,11 +1,9 @@
 -- The loop keeps what the classes passed leave.
-use borrow.Author.Rules.{rules, scaled_Fits}
-use Prim.Native.Nat.{◌-◌, ◌≤◌}
+use borrow.Author.Rules.{rules}
 use native.Mathlib.Omega.{arith}
-use mathlib.Core.Path.{◌≡◌, refl, ap, ◌∙◌}
-use lib.ListN.{length, take}
-use lib.Seq.{sets, length-sets}
-use Rattle.class_words.specs.WordsLaws.{class_written, classes_written}
+use mathlib.Core.Path.{◌≡◌}
+use lib.ListN.{length}
+use Rattle.class_words.specs.WordsLaws.{class_written}
 use Rattle.class_words.proofs.classes_out.Goals as goal
 
 pub loop-code-preserved : goal.loop-code-preserved

@@ -1,11 +1,8 @@
 -- The loop keeps what the classes passed leave.
-use borrow.Author.Rules.{rules, scaled_Fits}
 use Prim.Native.Nat.{◌-◌, ◌≤◌}
-use native.Mathlib.Omega.{arith}
-use mathlib.Core.Path.{◌≡◌, refl, ap, ◌∙◌}
-use lib.ListN.{length, take}
-use lib.Seq.{sets, length-sets}
-use Rattle.class_words.specs.WordsLaws.{class_written, classes_written}
+use mathlib.Core.Path.{◌≡◌}
+use lib.ListN.{take}
+use lib.Seq.{sets}
 use Rattle.class_words.proofs.classes_out.Given as goal
 
 abbrev pub invariant-loop-code : goal.invariant-loop-code

@@ -1,14 +1,13 @@
 -- The loop's invariant: the sums passed, and what adding the rest of the row makes of the others, are what is to come out.
-use Prim.Native.Nat.{ℕ, ◌+◌, ◌-◌, ◌≤◌}
+use Prim.Native.Nat.{ℕ, ◌+◌}
 use native.Mathlib.Omega.{arith}
 use mathlib.Core.Path.{◌≡◌, sym, ap, ◌∙◌}
 use lib.IntN.{pos}
-use lib.Dec.{le→leb}
-use lib.ListN.{length, get_or, set}
-use lib.Ieee.{Float, nan, binary32, add, mul, of_int, in_float}
+use lib.ListN.{get_or, set}
+use lib.Ieee.{Float, nan, binary32, add, mul, of_int}
 use borrow.Author.Rules.{rules}
 use Rattle.float_bits.specs.Words.{float_of}
-use Rattle.float_bits.specs.Rows.{add_product, add_scaled}
+use Rattle.float_bits.specs.Rows.{add_product}
 use Rattle.float_bits.proofs.ZipInto.{rest, taken_turn, all_taken}
 use Rattle.float_bits.proofs.add_scaled.Goals as goal
 

@@ -1,10 +1,8 @@
 -- A NaN's word holds the one NaN, which is what 0 / 0 gives. Any other word's bits are read.
-use mathlib.Core.Path.{◌≡◌, refl, sym, ◌∙◌, subst}
-use mathlib.Core.Bool.{Bool, true, not, true≢false}
-use lib.Dec.{T}
+use mathlib.Core.Path.{◌≡◌, refl, sym, ◌∙◌}
+use mathlib.Core.Bool.{true, true≢false}
 use lib.Ieee.{Float, nan, inf, fin, binary32, div, is_nan, of_bits}
 use lib.Ieee.Bits.{nan_bits_is}
-use borrow.Author.Rules.{rules}
 use Rattle.float_bits.specs.Words.{float_of, plus_zero}
 use Rattle.float_bits.proofs.float_of_word.Goals as goal
 

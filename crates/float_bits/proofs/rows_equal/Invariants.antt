@@ -1,13 +1,9 @@
 -- The loop's invariant: the rows are equal where the elements passed are, and those that are left.
-use Prim.Native.Nat.{◌+◌, ◌-◌, ◌≤◌}
-use native.Mathlib.Omega.{arith}
-use mathlib.Core.Path.{◌≡◌, sym, ap, ◌∙◌}
-use mathlib.Core.Bool.{Bool, ◌&&◌, and_assoc, and-true}
-use lib.ListN.{length, drop, get_or}
-use borrow.Author.Rules.{rules}
-use Rattle.float_bits.specs.Words.{words_equal}
+use Prim.Native.Nat.{◌-◌, ◌≤◌}
+use mathlib.Core.Path.{◌≡◌}
+use mathlib.Core.Bool.{◌&&◌}
+use lib.ListN.{length, drop}
 use Rattle.float_bits.specs.Rows.{rows_equal}
-use Rattle.float_bits.proofs.AllEqual.{element_turn, none_left}
 use Rattle.float_bits.proofs.rows_equal.Given as goal
 
 abbrev pub invariant-loop-i : goal.invariant-loop-i

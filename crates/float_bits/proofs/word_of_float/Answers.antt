@@ -5,7 +5,6 @@ use mathlib.Core.Bool.{Bool, true, false, not, ◌&&◌, not-not}
 use lib.Dec.{T}
 use lib.Ieee.{Float, nan, inf, fin, up, down, eq, ne, is_nan, to_bits}
 use lib.Ieee.Compare.{differs_from_itself}
-use borrow.Author.Rules.{rules}
 use borrow.Author.Tests.{eq-eqb}
 use Rattle.float_bits.specs.Words.{word_of}
 use Rattle.float_bits.proofs.word_of_float.Goals as goal

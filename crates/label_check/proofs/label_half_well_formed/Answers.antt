@@ -1,6 +1,5 @@
 -- Each return is what its test says of well-formedness.
 use native.Mathlib.Omega.{arith}
-use borrow.Author.Rules.{rules}
 use mathlib.Core.Bool.{false≢true}
 use mathlib.Core.Path.{refl, sym, ◌∙◌}
 use Rattle.interval_store_manager.specs.MarkLaws.{unmarked}

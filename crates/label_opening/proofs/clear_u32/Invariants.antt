@@ -1,12 +1,7 @@
 -- The invariant: the entries passed are 0, every other is as it was.
-use Prim.Native.Nat.{ℕ, ◌≤◌, ◌-◌}
-use native.Mathlib.Omega.{arith}
-use borrow.Author.Rules.{scaled_Fits}
-use borrow.Author.Fill.{fill_none, fill_more}
-use mathlib.Core.List.{List}
-use mathlib.Core.Path.{◌≡◌, ◌∙◌, ap}
-use lib.ListN.{length, set}
-use Rattle.labels.specs.Opening.{cleared, cleared_length}
+use Prim.Native.Nat.{◌≤◌, ◌-◌}
+use mathlib.Core.Path.{◌≡◌}
+use Rattle.labels.specs.Opening.{cleared}
 use Rattle.label_opening.proofs.clear_u32.Given as goal
 
 abbrev pub invariant-loop-i : goal.invariant-loop-i

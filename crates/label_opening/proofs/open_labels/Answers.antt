@@ -1,5 +1,4 @@
 -- Each table is cleared, and each manager opened.
-use borrow.Author.Rules.{rules}
 use Rattle.labels.specs.Forms.{label_half}
 use Rattle.label_opening.specs.OpeningLaws.{table_is, opened_is}
 use Rattle.label_opening.proofs.open_labels.Goals as goal

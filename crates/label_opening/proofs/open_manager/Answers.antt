@@ -1,5 +1,4 @@
 -- New accepts what may be opened, so that its refusal is never met.
-use borrow.Author.Rules.{rules}
 use Rattle.label_opening.specs.OpeningLaws.{not_refused}
 use Rattle.label_opening.proofs.open_manager.Goals as goal
 

@@ -1,9 +1,6 @@
 -- The invariant: no more lines than bytes passed, so that their count fits.
 use Prim.Native.Nat.{◌≤◌, ◌-◌}
-use mathlib.Core.Logic.{⊎_elim}
 use lib.ListN.{length}
-use borrow.Author.Rules.{rules}
-use native.Mathlib.Omega.{arith}
 use Rattle.recorded_text.proofs.count_lines.Given as goal
 
 abbrev pub invariant-loop-i : goal.invariant-loop-i

@@ -1,10 +1,7 @@
 -- The invariant: what is left to read, after the value so far, is the number that stands at `at`.
-use Prim.Native.Nat.{◌-◌}
-use mathlib.Core.Path.{◌≡◌, refl, ◌∙◌}
-use lib.ListN.{length, get_or, drop}
-use Rattle.recorded_text.specs.Numbers.{digits, number_at, digits_end, digits_stop, digits_go, below_digits, above_digits, too_large, a_digit}
-use borrow.Author.Rules.{rules}
-use native.Mathlib.Omega.{arith}
+use mathlib.Core.Path.{refl, ◌∙◌}
+use lib.ListN.{get_or}
+use Rattle.recorded_text.specs.Numbers.{number_at, digits_end, digits_stop, digits_go, below_digits, above_digits, too_large, a_digit}
 use Rattle.recorded_text.proofs.number_at.Goals as goal
 
 pub loop-i-init : goal.loop-i-init

@@ -1,10 +1,8 @@
 -- The invariant: what is left to read, after the value so far, is the number that stands at `at`.
 use Prim.Native.Nat.{◌-◌}
-use mathlib.Core.Path.{◌≡◌, refl, ◌∙◌}
-use lib.ListN.{length, get_or, drop}
-use Rattle.recorded_text.specs.Numbers.{digits, number_at, digits_end, digits_stop, digits_go, below_digits, above_digits, too_large, a_digit}
-use borrow.Author.Rules.{rules}
-use native.Mathlib.Omega.{arith}
+use mathlib.Core.Path.{◌≡◌}
+use lib.ListN.{length, drop}
+use Rattle.recorded_text.specs.Numbers.{digits, number_at}
 use Rattle.recorded_text.proofs.number_at.Given as goal
 
 abbrev pub invariant-loop-i : goal.invariant-loop-i

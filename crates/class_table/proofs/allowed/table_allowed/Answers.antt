@@ -1,10 +1,8 @@
 -- The loop keeps `Masked`.
 use borrow.Author.Rules.{rules}
-use Prim.Native.Nat.{◌-◌}
 use mathlib.Core.Path.{◌≡◌}
-use native.Mathlib.Omega.{arith}
 use lib.ListN.{length}
-use Rattle.class_table.specs.Marks.{Masked, none_masked, one_masked, high_masked, all_masked}
+use Rattle.class_table.specs.Marks.{none_masked, one_masked, high_masked, all_masked}
 use Rattle.class_table.proofs.allowed.table_allowed.Goals as goal
 
 pub loop-code-init : goal.loop-code-init

@@ -1,10 +1,6 @@
 -- The loop keeps `Masked`.
-use borrow.Author.Rules.{rules}
 use Prim.Native.Nat.{◌-◌}
-use mathlib.Core.Path.{◌≡◌}
-use native.Mathlib.Omega.{arith}
-use lib.ListN.{length}
-use Rattle.class_table.specs.Marks.{Masked, none_masked, one_masked, high_masked, all_masked}
+use Rattle.class_table.specs.Marks.{Masked}
 use Rattle.class_table.proofs.allowed.table_allowed.Given as goal
 
 abbrev pub invariant-loop-code : goal.invariant-loop-code

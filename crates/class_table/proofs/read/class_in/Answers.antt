@@ -3,7 +3,6 @@ use Prim.Native.Nat.{◌+◌, ◌-◌}
 use mathlib.Core.Path.{◌≡◌, ◌∙◌}
 use native.Mathlib.Omega.{arith}
 use lib.Seq.{drop-drop}
-use borrow.Author.Rules.{rules}
 use Rattle.class_table.proofs.read.class_in.Goals as goal
 
 pub returns : goal.returns

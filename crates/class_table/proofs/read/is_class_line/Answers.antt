@@ -6,7 +6,6 @@ use native.Mathlib.Omega.{arith}
 use lib.ListN.{drop, length-drop}
 use lib.Seq.{length-take-le}
 use Rattle.decimal.proofs.LinesLaws.{length_line}
-use borrow.Author.Rules.{rules}
 use Rattle.class_table.proofs.read.is_class_line.Goals as goal
 
 pub is_line-requires : goal.is_line-requires

@@ -1,13 +1,9 @@
 -- The loop keeps that the lines that are left decide, and the classes filled in; every way out is a law of `Reading`.
-use borrow.Author.Rules.{rules}
-use Prim.Native.Nat.{◌≤◌, ◌-◌}
-use mathlib.Core.Path.{◌≡◌, refl, ◌∙◌}
+use mathlib.Core.Path.{refl, ◌∙◌}
 use native.Mathlib.Omega.{arith}
-use lib.ListN.{length, length-set}
-use borrow.Author.Tests.{not-true, not-false}
+use lib.ListN.{length-set}
 use Rattle.class_table.specs.Table.{table_allowed}
-use Rattle.class_table.specs.Text.{classes_of}
-use Rattle.class_table.proofs.Reading.{left_same, filled, wrong_length, large_class, line_right, line_wrong, class_filled, table_read_lem}
+use Rattle.class_table.proofs.Reading.{wrong_length, large_class, line_right, line_wrong, class_filled, table_read_lem}
 use Rattle.class_table.proofs.read.read_classes.Goals as goal
 
 pub returns-then-text-ne216 : goal.returns-then-text-ne216

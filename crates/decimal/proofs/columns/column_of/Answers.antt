@@ -1,7 +1,6 @@
 -- The two cases of `column`.
 use borrow.Author.Tests.{eq-eqb, ne_eqb}
 use Rattle.decimal.specs.Field.{column}
-use borrow.Author.Rules.{rules}
 use Rattle.decimal.proofs.columns.column_of.Goals as goal
 
 pub returns-then-rest-eq0 : goal.returns-then-rest-eq0

@@ -1,7 +1,6 @@
 -- The cases of `digit`.
 use borrow.Author.Tests.{le-leb, lt-leb}
 use Rattle.decimal.specs.Field.{digit}
-use borrow.Author.Rules.{rules}
 use Rattle.decimal.proofs.columns.digit_of.Goals as goal
 
 pub returns-then-b-le57 : goal.returns-then-b-le57

@@ -1,10 +1,7 @@
 -- The loop keeps what is left to count behind the value so far; a value of i digits is below 10 to the i.
-use borrow.Author.Rules.{rules}
-use Prim.Native.Nat.{◌≤◌, ◌<◌, ◌-◌, ◌^◌}
-use mathlib.Core.Path.{◌≡◌, refl, ◌∙◌}
+use mathlib.Core.Path.{◌∙◌}
 use native.Mathlib.Omega.{arith}
-use lib.ListN.{length, drop, get_or}
-use Rattle.decimal.specs.Field.{value_from, value}
+use lib.ListN.{get_or}
 use Rattle.decimal.proofs.ReaderTurns.{value_turn, value_end, below_turn, value_fits}
 use Rattle.decimal.proofs.read.field_value.Goals as goal
 

@@ -1,11 +1,7 @@
 -- The loop keeps that the columns left of k decide.
-use borrow.Author.Rules.{rules}
-use Prim.Native.Nat.{◌≤◌}
-use mathlib.Core.Path.{◌≡◌, sym, ◌∙◌}
+use mathlib.Core.Path.{sym, ◌∙◌}
 use native.Mathlib.Omega.{arith}
-use lib.ListN.{length, take}
 use borrow.Author.Tests.{eq-eqb, ne_eqb}
-use Rattle.decimal.specs.Field.{columns, same_bytes, is_field}
 use Rattle.decimal.proofs.ReaderTurns.{none_compared, last_compared, column_compared, all_compared}
 use Rattle.decimal.proofs.read.is_field.Goals as goal
 

@@ -1,12 +1,8 @@
 -- The loop keeps that the columns left of k decide.
-use borrow.Author.Rules.{rules}
 use Prim.Native.Nat.{◌≤◌}
-use mathlib.Core.Path.{◌≡◌, sym, ◌∙◌}
-use native.Mathlib.Omega.{arith}
+use mathlib.Core.Path.{◌≡◌}
 use lib.ListN.{length, take}
-use borrow.Author.Tests.{eq-eqb, ne_eqb}
 use Rattle.decimal.specs.Field.{columns, same_bytes, is_field}
-use Rattle.decimal.proofs.ReaderTurns.{none_compared, last_compared, column_compared, all_compared}
 use Rattle.decimal.proofs.read.is_field.Given as goal
 
 abbrev pub invariant-loop-k : goal.invariant-loop-k

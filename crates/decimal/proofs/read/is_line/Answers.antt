@@ -1,14 +1,7 @@
 -- The loop keeps where field k begins, and that the line from there on decides.
-use borrow.Author.Rules.{rules}
-use Prim.Native.Nat.{◌≤◌, ◌-◌}
-use mathlib.Core.Path.{◌≡◌, refl, sym, ◌∙◌}
+use mathlib.Core.Path.{sym, ◌∙◌}
 use native.Mathlib.Omega.{arith}
-use native.Mathlib.Nat.{zero-add}
-use lib.ListN.{length, drop}
-use borrow.Author.Tests.{not-true, not-false}
-use Rattle.decimal.specs.Field.{same_bytes}
-use Rattle.decimal.specs.Lines.{line}
-use Rattle.decimal.proofs.ReaderTurns.{Begins, begins_next, begins_room, part_compared, end_room, feed_compared}
+use Rattle.decimal.proofs.ReaderTurns.{begins_next, begins_room, part_compared, end_room, feed_compared}
 use Rattle.decimal.proofs.read.is_line.Goals as goal
 
 pub overflow_add-end : goal.overflow_add-end

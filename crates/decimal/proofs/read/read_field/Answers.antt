@@ -1,7 +1,6 @@
 -- Accepted where writing the value makes the field.
 use mathlib.Core.Path.{sym, ◌∙◌}
 use Rattle.decimal.proofs.ReaderTurns.{accepted, turned_down}
-use borrow.Author.Rules.{rules}
 use Rattle.decimal.proofs.read.read_field.Goals as goal
 
 pub returns-then-is_field : goal.returns-then-is_field

@@ -1,6 +1,5 @@
 -- A part written whole is a segment put.
 use Rattle.decimal.proofs.WriterTurns.{field_put}
-use borrow.Author.Rules.{rules}
 use Rattle.decimal.proofs.write.put_field.Goals as goal
 
 pub returns : goal.returns

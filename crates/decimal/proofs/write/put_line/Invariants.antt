@@ -1,12 +1,9 @@
 -- The loop keeps that the first k fields are put, and where they end.
-use borrow.Author.Rules.{rules}
 use Prim.Native.Nat.{◌+◌, ◌≤◌, ◌-◌}
-use mathlib.Core.Path.{◌≡◌, refl, ◌∙◌}
-use native.Mathlib.Omega.{arith}
-use lib.ListN.{length, take, length-set}
+use mathlib.Core.Path.{◌≡◌}
+use lib.ListN.{length, take}
 use Rattle.decimal.specs.Lines.{fields}
 use Rattle.decimal.specs.Segments.{put}
-use Rattle.decimal.proofs.WriterTurns.{line_start, line_start_at, line_turn, line_turn_at, line_turn_room, line_end, line_end_room}
 use Rattle.decimal.proofs.write.put_line.Given as goal
 
 abbrev pub invariant-loop-k : goal.invariant-loop-k

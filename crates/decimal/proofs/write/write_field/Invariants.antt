@@ -1,12 +1,9 @@
 -- The loop keeps that the columns left of k, before what is written, make the field.
-use borrow.Author.Rules.{rules}
 use Prim.Native.Nat.{◌≤◌}
 use mathlib.Core.List.{◌++◌}
-use mathlib.Core.Path.{◌≡◌, ◌∙◌}
-use native.Mathlib.Omega.{arith}
-use lib.ListN.{length, drop, length-set}
+use mathlib.Core.Path.{◌≡◌}
+use lib.ListN.{length, drop}
 use Rattle.decimal.specs.Field.{columns, field}
-use Rattle.decimal.proofs.WriterTurns.{field_none, last_written, column_written, columns_none}
 use Rattle.decimal.proofs.write.write_field.Given as goal
 
 abbrev pub invariant-loop-k : goal.invariant-loop-k

@@ -1,5 +1,4 @@
 -- The decision, carried out.
-use borrow.Author.Rules.{rules}
 use mathlib.Core.Path.{sym, ◌∙◌, ap}
 use Rattle.interval_store_manager.specs.Calls.{decision_means, change_decided, change_spec}
 use Rattle.interval_store_manager.specs.DecisionLaws.{change_go, goes, refuses}

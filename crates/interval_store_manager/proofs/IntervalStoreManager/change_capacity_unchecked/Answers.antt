@@ -1,5 +1,4 @@
 -- A change upwards pushes one interval; any other leaves all as it was.
-use borrow.Author.Rules.{rules}
 use native.Mathlib.Omega.{arith}
 use mathlib.Core.Path.{sym, ◌∙◌}
 use Rattle.interval_store_manager.specs.Sound.{sound, lent, entries_le_capacity}

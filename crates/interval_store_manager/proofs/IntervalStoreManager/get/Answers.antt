@@ -1,7 +1,5 @@
 -- The check decides, and what it counted goes to the get.
-use borrow.Author.Rules.{rules}
 use mathlib.Core.Path.{sym, ◌∙◌}
-use Rattle.terms.specs.Below.{positive}
 use Rattle.interval_store_manager.specs.DecisionLaws.{get_given, get_none, get_ill}
 use Rattle.interval_store_manager.proofs.IntervalStoreManager.get.Goals as goal
 

@@ -1,5 +1,4 @@
 -- The answer is that of the check: 1, or the capacity.
-use borrow.Author.Rules.{rules}
 use mathlib.Core.Path.{sym, ◌∙◌}
 use Rattle.interval_store_manager.specs.Calls.{get_capacity_spec}
 use Rattle.interval_store_manager.specs.DecisionLaws.{read, unread}

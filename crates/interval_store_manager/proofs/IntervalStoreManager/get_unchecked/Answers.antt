@@ -1,7 +1,6 @@
 -- The two returns are the two forms of get.
-use Prim.Native.Nat.{◌-◌}
 use native.Mathlib.Omega.{arith}
-use borrow.Author.Rules.{rules, scaled_Fits}
+use borrow.Author.Rules.{scaled_Fits}
 use Rattle.interval_store_manager.specs.Sound.{sound}
 use Rattle.interval_store_manager.specs.GetLaws.{next_below, some_free, pop_given, keep_given}
 use Rattle.interval_store_manager.proofs.IntervalStoreManager.get_unchecked.Goals as goal

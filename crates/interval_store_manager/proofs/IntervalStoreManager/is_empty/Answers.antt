@@ -1,5 +1,4 @@
 -- The answer is that of the check: 1, or whether no entry is in use.
-use borrow.Author.Rules.{rules}
 use mathlib.Core.Path.{sym, ◌∙◌}
 use Rattle.interval_store_manager.specs.Calls.{is_empty_spec}
 use Rattle.interval_store_manager.specs.DecisionLaws.{read, unread}

@@ -1,5 +1,4 @@
 -- One store at the stack's top in each list.
-use borrow.Author.Rules.{rules}
 use mathlib.Core.Path.{refl}
 use Rattle.interval_store_manager.specs.Calls.{pushed}
 use Rattle.interval_store_manager.proofs.IntervalStoreManager.push.Goals as goal

@@ -1,7 +1,7 @@
 -- The four returns are the forms of release.
-use Prim.Native.Nat.{◌-◌, ◌≤◌}
+use Prim.Native.Nat.{◌≤◌}
 use native.Mathlib.Omega.{arith}
-use borrow.Author.Rules.{rules, scaled_Fits}
+use borrow.Author.Rules.{scaled_Fits}
 use mathlib.Core.Path.{sym, ◌∙◌}
 use Rattle.terms.specs.Below.{positive}
 use Rattle.interval_store_manager.specs.Sound.{sound}

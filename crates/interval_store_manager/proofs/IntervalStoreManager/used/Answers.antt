@@ -1,5 +1,4 @@
 -- The answer is that of the check: 1, or what `free` says.
-use borrow.Author.Rules.{rules}
 use native.Mathlib.Omega.{arith}
 use mathlib.Core.Path.{sym, ◌∙◌}
 use Rattle.interval_store_manager.specs.Calls.{used_spec}

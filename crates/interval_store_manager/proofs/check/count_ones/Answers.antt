@@ -1,9 +1,7 @@
 -- The invariant: the sum so far is that of the marks below i. A mark is at most 1, so the sum fits.
-use Prim.Native.Nat.{◌≤◌, ◌-◌}
 use native.Mathlib.Omega.{arith}
 use native.Mathlib.Numerals.{add-one}
-use mathlib.Core.Path.{◌≡◌, refl}
-use lib.ListN.{get_or}
+use mathlib.Core.Path.{refl}
 use Rattle.terms.specs.Below.{sum_below}
 use Rattle.interval_store_manager.proofs.check.count_ones.Goals as goal
 

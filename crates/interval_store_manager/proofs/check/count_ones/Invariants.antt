@@ -1,8 +1,6 @@
 -- The invariant: the sum so far is that of the marks below i. A mark is at most 1, so the sum fits.
 use Prim.Native.Nat.{◌≤◌, ◌-◌}
-use native.Mathlib.Omega.{arith}
-use native.Mathlib.Numerals.{add-one}
-use mathlib.Core.Path.{◌≡◌, refl}
+use mathlib.Core.Path.{◌≡◌}
 use lib.ListN.{get_or}
 use Rattle.terms.specs.Below.{sum_below}
 use Rattle.interval_store_manager.proofs.check.count_ones.Given as goal

@@ -1,10 +1,8 @@
 -- The invariant: the entries from `from` up to i are 1, every other is as it was. A single entry is one turn of it.
-use Prim.Native.Nat.{ℕ, ◌+◌, ◌≤◌, ◌-◌}
-use native.Mathlib.Omega.{arith}
-use mathlib.Core.Path.{◌≡◌, refl}
-use lib.ListN.{length, get_or, length-set}
+use Prim.Native.Nat.{ℕ, ◌≤◌, ◌-◌}
+use mathlib.Core.Path.{◌≡◌}
+use lib.ListN.{length, get_or}
 use Rattle.interval_store_manager.specs.Marks.{filled}
-use Rattle.interval_store_manager.specs.MarkLaws.{filled_none, filled_more}
 use Rattle.interval_store_manager.proofs.check.fill_ones.Given as goal
 
 abbrev pub invariant-loop-i : goal.invariant-loop-i

@@ -1,9 +1,8 @@
 -- The invariant is `Sweeping`; each way out is one of its laws.
-use Prim.Native.Nat.{◌+◌, ◌-◌}
+use Prim.Native.Nat.{◌+◌}
 use native.Mathlib.Omega.{arith}
-use borrow.Author.Rules.{scaled_Fits}
 use Rattle.interval_store_manager.specs.StackLaws.{bounded}
-use Rattle.interval_store_manager.proofs.Sweeping.{Sweeping, begins, total_more, goes_on, stops, finished, too_many}
+use Rattle.interval_store_manager.proofs.Sweeping.{begins, total_more, goes_on, stops, finished, too_many}
 use Rattle.interval_store_manager.proofs.check.mark_intervals.Goals as goal
 
 pub loop-i-init : goal.loop-i-init

@@ -1,9 +1,6 @@
 -- The invariant is `Sweeping`; each way out is one of its laws.
-use Prim.Native.Nat.{◌+◌, ◌-◌}
-use native.Mathlib.Omega.{arith}
-use borrow.Author.Rules.{scaled_Fits}
-use Rattle.interval_store_manager.specs.StackLaws.{bounded}
-use Rattle.interval_store_manager.proofs.Sweeping.{Sweeping, begins, total_more, goes_on, stops, finished, too_many}
+use Prim.Native.Nat.{◌-◌}
+use Rattle.interval_store_manager.proofs.Sweeping.{Sweeping}
 use Rattle.interval_store_manager.proofs.check.mark_intervals.Given as goal
 
 abbrev pub invariant-loop-i : goal.invariant-loop-i

@@ -1,5 +1,4 @@
 -- The marks are a local array of zeros.
-use borrow.Author.Rules.{rules}
 use Rattle.interval_store_manager.specs.MarkLaws.{unmarked}
 use Rattle.interval_store_manager.proofs.check.well_formed.Goals as goal
 

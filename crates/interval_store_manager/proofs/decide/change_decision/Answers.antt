@@ -1,5 +1,4 @@
 -- Each return follows from the tests that led to it.
-use borrow.Author.Rules.{rules}
 use mathlib.Core.Path.{sym, ◌∙◌}
 use borrow.Author.Tests.{lt-ltb, le-ltb}
 use Rattle.interval_store_manager.specs.Calls.{change_decided}

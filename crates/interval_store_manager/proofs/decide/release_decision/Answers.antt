@@ -1,5 +1,4 @@
 -- Each return follows from the tests that led to it; an index is free exactly where it is marked.
-use borrow.Author.Rules.{rules}
 use native.Mathlib.Omega.{arith}
 use mathlib.Core.Path.{sym, ◌∙◌}
 use borrow.Author.Tests.{le-leb, lt-leb}

@@ -1,11 +1,8 @@
 -- The invariant: what holds of the labels below i.
 use Prim.Native.Nat.{◌≤◌, ◌-◌}
-use native.Mathlib.Omega.{arith}
-use mathlib.Core.Path.{◌≡◌, refl}
-use borrow.Author.Rules.{rules, scaled_Fits}
+use mathlib.Core.Path.{◌≡◌}
 use Rattle.terms.specs.Below.{every_below}
 use Rattle.label_check.specs.LabelPass.{label_bounded}
-use Rattle.label_check.specs.SlotPass.{every_next}
 use Rattle.label_check.proofs.label_pass.labels_bounded.Given as goal
 
 abbrev pub invariant-loop-i : goal.invariant-loop-i

@@ -1,11 +1,7 @@
 -- The invariant: the classes of the labels below i are held, and the sums are those of the labels below i.
-use Prim.Native.Nat.{◌≤◌, ◌-◌}
 use native.Mathlib.Omega.{arith}
-use mathlib.Core.Path.{◌≡◌, refl, sym, ◌∙◌}
-use lib.ListN.{length}
-use borrow.Author.Rules.{scaled_Fits}
+use mathlib.Core.Path.{refl, ◌∙◌}
 use Rattle.terms.specs.Below.{every_below}
-use Rattle.label_check.specs.Checks.{Summed}
 use Rattle.label_check.specs.CheckLaws.{summed_none, summed_more, summed_most}
 use Rattle.label_check.specs.LabelPass.{label_classed}
 use Rattle.label_check.specs.SlotPass.{every_next}

@@ -1,14 +1,10 @@
 -- The invariant: the classes of the labels below i are held, and the sums are those of the labels below i.
 use Prim.Native.Nat.{◌≤◌, ◌-◌}
-use native.Mathlib.Omega.{arith}
-use mathlib.Core.Path.{◌≡◌, refl, sym, ◌∙◌}
+use mathlib.Core.Path.{◌≡◌}
 use lib.ListN.{length}
-use borrow.Author.Rules.{scaled_Fits}
 use Rattle.terms.specs.Below.{every_below}
 use Rattle.label_check.specs.Checks.{Summed}
-use Rattle.label_check.specs.CheckLaws.{summed_none, summed_more, summed_most}
 use Rattle.label_check.specs.LabelPass.{label_classed}
-use Rattle.label_check.specs.SlotPass.{every_next}
 use Rattle.label_check.proofs.label_pass.labels_shared.Given as goal
 
 abbrev pub invariant-loop-i : goal.invariant-loop-i

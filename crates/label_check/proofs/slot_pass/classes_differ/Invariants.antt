@@ -1,14 +1,11 @@
 -- The invariant: whether the classes of the live slots below s differ, which they are, and how many.
 use Prim.Native.Nat.{◌≤◌, ◌-◌}
-use native.Mathlib.Omega.{arith}
 use mathlib.Core.Bool.{not}
-use mathlib.Core.Path.{◌≡◌, refl, ◌∙◌}
-use lib.ListN.{length, get_or}
-use lib.Dec.{eqb}
-use borrow.Author.Rules.{rules, scaled_Fits}
-use Rattle.terms.specs.Below.{every_below, count_below, sum_below}
+use mathlib.Core.Path.{◌≡◌}
+use lib.ListN.{length}
+use Rattle.terms.specs.Below.{every_below}
 use Rattle.labels.specs.Labels.{differ}
-use Rattle.label_check.specs.SlotPass.{slots_live, Seen, byte_le, live_next, live_most, seen_none, seen_more, met_more, more_live, rest_differ}
+use Rattle.label_check.specs.SlotPass.{slots_live, Seen}
 use Rattle.label_check.proofs.slot_pass.classes_differ.Given as goal
 
 abbrev pub invariant-loop-found : goal.invariant-loop-found

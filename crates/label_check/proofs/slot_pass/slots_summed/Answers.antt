@@ -1,8 +1,6 @@
 -- The invariant: what holds of the slots below s.
-use Prim.Native.Nat.{◌≤◌, ◌-◌}
 use native.Mathlib.Omega.{arith}
-use mathlib.Core.Path.{◌≡◌, refl}
-use borrow.Author.Rules.{rules, scaled_Fits}
+use mathlib.Core.Path.{refl}
 use Rattle.terms.specs.Below.{every_below}
 use Rattle.label_check.specs.Checks.{slot_passes}
 use Rattle.label_check.specs.SlotPass.{every_next}

@@ -1,11 +1,8 @@
 -- The invariant: what holds of the slots below s.
 use Prim.Native.Nat.{◌≤◌, ◌-◌}
-use native.Mathlib.Omega.{arith}
-use mathlib.Core.Path.{◌≡◌, refl}
-use borrow.Author.Rules.{rules, scaled_Fits}
+use mathlib.Core.Path.{◌≡◌}
 use Rattle.terms.specs.Below.{every_below}
 use Rattle.label_check.specs.Checks.{slot_passes}
-use Rattle.label_check.specs.SlotPass.{every_next}
 use Rattle.label_check.proofs.slot_pass.slots_summed.Given as goal
 
 abbrev pub invariant-loop-s : goal.invariant-loop-s

@@ -1,6 +1,5 @@
 -- A label and its slot are each lowered; the slot of a live label is live.
 use native.Mathlib.Omega.{arith}
-use borrow.Author.Rules.{scaled_Fits}
 use mathlib.Core.Path.{ap₂}
 use Rattle.labels.specs.Counted.{Counted}
 use Rattle.labels.specs.Labels.{label_lowered, with_tables}

@@ -1,6 +1,5 @@
 -- The slot of a live label is below the capacity, and its count has room for one more.
 use native.Mathlib.Omega.{arith}
-use borrow.Author.Rules.{rules, scaled_Fits}
 use mathlib.Core.Path.{refl}
 use lib.ListN.{get_or}
 use Rattle.labels.specs.Counted.{raised}

@@ -1,7 +1,6 @@
 -- The two returns are the two forms of one count less.
-use borrow.Author.Rules.{rules}
 use Rattle.labels.specs.Counted.{counted}
-use Rattle.labels.specs.CountedLaws.{used_not_free, lowered_released, lowered_kept}
+use Rattle.labels.specs.CountedLaws.{lowered_released, lowered_kept}
 use Rattle.labels.proofs.count.lower_slot.Goals as goal
 
 pub returns-then-labelled-eq1 : goal.returns-then-labelled-eq1

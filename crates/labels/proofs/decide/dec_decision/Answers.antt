@@ -1,5 +1,4 @@
 -- Each return follows from the tests that led to it.
-use borrow.Author.Rules.{rules}
 use mathlib.Core.Path.{sym, ◌∙◌}
 use borrow.Author.Tests.{eq-eqb, ne_eqb}
 use Rattle.labels.specs.Decisions.{dec_decided}

@@ -1,5 +1,4 @@
 -- Each return follows from the tests that led to it.
-use borrow.Author.Rules.{rules}
 use borrow.Author.Tests.{lt-ltb, le-ltb}
 use Rattle.labels.specs.Decisions.{in_use}
 use Rattle.labels.proofs.decide.label_in_use.Goals as goal

@@ -1,5 +1,4 @@
 -- Each return follows from the tests that led to it.
-use borrow.Author.Rules.{rules}
 use mathlib.Core.Path.{sym, ◌∙◌}
 use Rattle.labels.specs.Readings.{attribute_spec}
 use Rattle.labels.proofs.read.attribute.Goals as goal

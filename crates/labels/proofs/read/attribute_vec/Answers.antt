@@ -1,5 +1,4 @@
 -- Each return is one of the ways out that the laws of the readings name.
-use borrow.Author.Rules.{rules}
 use mathlib.Core.Path.{sym, ◌∙◌}
 use Rattle.labels.specs.ReadingLaws.{vec_refused, vec_length, vec_written}
 use Rattle.labels.proofs.read.attribute_vec.Goals as goal

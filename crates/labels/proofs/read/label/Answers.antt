@@ -1,5 +1,4 @@
 -- Each return follows from the test that led to it.
-use borrow.Author.Rules.{rules}
 use mathlib.Core.Path.{sym, ◌∙◌}
 use Rattle.labels.specs.Readings.{label_spec}
 use Rattle.labels.proofs.read.label.Goals as goal

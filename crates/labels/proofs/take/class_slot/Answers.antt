@@ -1,7 +1,5 @@
 -- The invariant: no slot that was passed is live and holds the class.
-use Prim.Native.Nat.{ℕ, ◌≤◌, ◌<◌, ◌-◌}
 use native.Mathlib.Omega.{arith}
-use borrow.Author.Rules.{scaled_Fits}
 use borrow.Author.Count.{below_more}
 use mathlib.Core.Bool.{false}
 use mathlib.Core.Path.{◌≡◌}

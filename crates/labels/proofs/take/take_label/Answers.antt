@@ -1,6 +1,6 @@
 -- A slot is free wherever a label index is; the rest follows from the laws of taking.
 use native.Mathlib.Omega.{arith}
-use borrow.Author.Rules.{rules, scaled_Fits}
+use borrow.Author.Rules.{scaled_Fits}
 use mathlib.Core.Path.{ap}
 use Rattle.labels.specs.CountedLaws.{capacity_most, next_within, index_given_lem}
 use Rattle.labels.specs.Labels.{SlotTaken}

@@ -1,6 +1,6 @@
 -- The two returns are the two forms of taking a slot.
 use native.Mathlib.Omega.{arith}
-use borrow.Author.Rules.{rules, scaled_Fits}
+use borrow.Author.Rules.{scaled_Fits}
 use Rattle.labels.specs.Counted.{counted}
 use Rattle.labels.specs.CountedLaws.{next_within, index_given_lem}
 use Rattle.labels.specs.TakeSlotLaws.{taken_live, taken_new}

@@ -1,5 +1,5 @@
 -- What is left of the part in use, with the rest of the table as it was.
-use Rattle.std.proofs.Common.{ℕ, ◌++◌, drop, ap, arith, length-take, rules}
+use Rattle.std.proofs.Common.{ℕ, ◌++◌, drop, ap}
 use Rattle.placement.specs.Compaction.{Layout}
 use Rattle.placement_rows.specs.Compactable.{layout, compacted_table}
 use Rattle.placement_rows.proofs.compaction.compact.Goals as goal

@@ -1,6 +1,6 @@
 -- The points are entered, and then the places scanned.
 use Rattle.std.proofs.Common.{length}
-use Rattle.placement_rows.proofs.Tables.{places_inside, table_filled}
+use Rattle.placement_rows.proofs.Tables.{places_inside}
 use Rattle.placement_rows.proofs.compaction.compact_with.Goals as goal
 
 pub index_places-requires : goal.index_places-requires

@@ -1,5 +1,4 @@
 -- The row at the place is turned by its turn.
-use Rattle.std.proofs.Common.{arith, length-drop, length-take, rules}
 use Rattle.placement_rows.proofs.Runs.{copy_turned}
 use Rattle.placement_rows.proofs.copying.copy.Goals as goal
 

@@ -1,5 +1,5 @@
 -- Two runs make up the copy.
-use Rattle.std.proofs.Common.{◌∙◌, arith, length-take, rules}
+use Rattle.std.proofs.Common.{◌∙◌}
 use Rattle.placement_rows.proofs.Runs.{turned_copied}
 use Rattle.placement_rows.proofs.copying.copy_turned.Goals as goal
 

@@ -1,5 +1,5 @@
 -- By cases on the flag.
-use Rattle.std.proofs.Common.{◌*◌, le_of_lt, mod-lt, arith, rules}
+use Rattle.std.proofs.Common.{◌*◌, le_of_lt, mod-lt, arith}
 use Rattle.placement.specs.Copying.{turn}
 use Rattle.placement_rows.proofs.copying.turned_by.Goals as goal
 

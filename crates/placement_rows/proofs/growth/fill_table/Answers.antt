@@ -1,7 +1,6 @@
 -- The loop's invariant: the entries from the start up to i are filled.
-use Rattle.std.proofs.Common.{◌≡◌, ◌-◌, ◌≤◌, length, replicate, ◌∙◌, arith, length-set, rules}
-use lib.Seq.{paste}
-use Rattle.placement_rows.proofs.Turns.{fill_none, fill_next}
+use Rattle.std.proofs.Common.{arith, length-set, rules}
+use Rattle.placement_rows.proofs.Turns.{fill_next}
 use Rattle.placement_rows.proofs.growth.fill_table.Goals as goal
 
 pub loop-i-preserved : goal.loop-i-preserved

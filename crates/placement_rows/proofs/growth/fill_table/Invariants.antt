@@ -1,7 +1,6 @@
 -- The loop's invariant: the entries from the start up to i are filled.
-use Rattle.std.proofs.Common.{◌≡◌, ◌-◌, ◌≤◌, length, replicate, ◌∙◌, arith, length-set, rules}
+use Rattle.std.proofs.Common.{◌≡◌, ◌-◌, ◌≤◌, length, replicate}
 use lib.Seq.{paste}
-use Rattle.placement_rows.proofs.Turns.{fill_none, fill_next}
 use Rattle.placement_rows.proofs.growth.fill_table.Given as goal
 
 abbrev pub invariant-loop-i : goal.invariant-loop-i

@@ -1,6 +1,6 @@
 -- The loop's invariant: the indices before i are entered.
-use Rattle.std.proofs.Common.{◌≡◌, ◌-◌, ◌≤◌, length, ap, ◌∙◌, ⊎_elim, arith, length-set, rules}
-use Rattle.placement_rows.specs.IndexTable.{Indexed, indexed_none, place_inside, passed, entered}
+use Rattle.std.proofs.Common.{◌≡◌, ◌-◌, ◌≤◌, length}
+use Rattle.placement_rows.specs.IndexTable.{Indexed}
 use Rattle.placement_rows.proofs.index_table.index_places.Given as goal
 
 abbrev pub invariant-loop-i : goal.invariant-loop-i

@@ -1,5 +1,5 @@
 -- Joined or whole, as the flag says.
-use Rattle.std.proofs.Common.{refl, ◌∙◌, arith, length-drop, length-take, rules}
+use Rattle.std.proofs.Common.{refl, ◌∙◌, arith, length-drop, length-take}
 use Rattle.placement.specs.Laying.{written_count, laid_as, laid_free}
 use Rattle.placement_rows.proofs.Runs.{laid_whole, laid_joined}
 use Rattle.placement_rows.proofs.laying.lay.Goals as goal

@@ -1,9 +1,9 @@
 -- By the tests on the end of what was read and on rotation.
-use Rattle.std.proofs.Common.{ℕ, ◌*◌, ◌/◌, sym, ap, ◌∙◌, add-zero, arith, rules, le-leb}
+use Rattle.std.proofs.Common.{ℕ, ◌*◌, ◌/◌, sym, ap, ◌∙◌, add-zero, arith, le-leb}
 use borrow.Author.Tests.{lt-leb}
 use Rattle.placement.specs.Alignment.{zeros_before}
 use Rattle.placement_rows.specs.OnePass.{run_of, run_from}
-use Rattle.placement_rows.proofs.OneRun.{zeros_small, joined_below, joined_within, joined_place, started_place}
+use Rattle.placement_rows.proofs.OneRun.{zeros_small, joined_within, joined_place, started_place}
 use Rattle.placement_rows.proofs.one_pass.next_run.Goals as goal
 
 pub overflow_sub-result-then-start-done : goal.overflow_sub-result-then-start-done

@@ -1,11 +1,10 @@
 -- The loop's invariant: what was scanned is what the definition leaves of the places before `place`, and its quotients are carried along.
-use Rattle.std.proofs.Common.{◌≡◌, ◌-◌, ◌/◌, ◌≤◌, sym, ap, ◌∙◌, subst, arith, rules}
+use Rattle.std.proofs.Common.{◌≡◌, ◌/◌, sym, ap, ◌∙◌, subst, arith, rules}
 use native.Mathlib.Nat.{div-mul_cancel}
 use Rattle.placement.proofs.ScannedLaws.{scanned}
-use Rattle.placement_rows.specs.OnePass.{scan, Carried}
-use Rattle.placement_rows.specs.declared.one_pass.Progress.{Progress}
+use Rattle.placement_rows.specs.OnePass.{Carried}
 use Rattle.placement_rows.proofs.OneRun.{scan_same, none_carried}
-use Rattle.placement_rows.proofs.Scanning.{scan_first, scan_last, elements_kept, indices_kept, passes, can_take, takes}
+use Rattle.placement_rows.proofs.Scanning.{scan_first, scan_last, passes, can_take, takes}
 use Rattle.placement_rows.proofs.one_pass.scan_places.Goals as goal
 use Rattle.placement_rows.proofs.one_pass.scan_places.Goals.{then-index, else-index}
 

@@ -1,9 +1,9 @@
 -- The run is the definition's, and so is what its copy leaves; the quotients go on.
-use Rattle.std.proofs.Common.{ℕ, ◌+◌, ◌*◌, length, sym, ap, ◌∙◌, subst, arith, rules}
+use Rattle.std.proofs.Common.{ℕ, ◌+◌, ◌*◌, length, sym, ap, ◌∙◌, subst}
 use Rattle.placement.specs.Scanned.{ScanState, advanced}
 use Rattle.placement_rows.specs.OnePass.{scan, met, Copyable}
 use Rattle.placement_rows.specs.declared.one_pass.Run.{Run}
-use Rattle.placement_rows.proofs.OneRun.{place_small, shingle_small, read_small, carried_on}
+use Rattle.placement_rows.proofs.OneRun.{carried_on}
 use Rattle.placement_rows.proofs.one_pass.take_point.Goals as goal
 
 pub returns : goal.returns

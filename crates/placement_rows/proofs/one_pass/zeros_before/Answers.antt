@@ -1,6 +1,6 @@
 -- The wrapping difference and sum are the definition's.
 use Rattle.placement_rows.proofs.OneRun.{wrapped}
-use Rattle.std.proofs.Common.{arith, rules}
+use Rattle.std.proofs.Common.{arith}
 use Rattle.placement_rows.proofs.one_pass.zeros_before.Goals as goal
 
 pub returns : goal.returns

@@ -1,5 +1,5 @@
 -- The three tests in the definition's order.
-use Rattle.std.proofs.Common.{◌≡◌, ℕ, ◌-◌, take, drop, ap, ◌∙◌, arith, length-drop, length-take, rules, le-ltb, lt-ltb}
+use Rattle.std.proofs.Common.{◌≡◌, ℕ, ◌-◌, take, drop, ap, ◌∙◌, arith, le-ltb, lt-ltb}
 use Rattle.float_bits.specs.Rows.{rows_equal}
 use Rattle.placement.specs.Overlap.{overlaps}
 use Rattle.placement_rows.proofs.overlap.ready_to_copy.Goals as goal

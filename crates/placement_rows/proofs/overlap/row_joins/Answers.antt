@@ -1,5 +1,5 @@
 -- The words that were lent are the first of the row, and no others are compared.
-use Rattle.std.proofs.Common.{◌+◌, take, ap, ◌∙◌, rules}
+use Rattle.std.proofs.Common.{◌+◌, take, ap, ◌∙◌}
 use Rattle.float_bits.specs.Words.{words_equal}
 use Rattle.placement.specs.Overlap.{overlaps}
 use Rattle.placement.specs.Row.{row_to_lay, moved_window}

@@ -1,5 +1,5 @@
 -- The window's part is what the moved window begins with.
-use Rattle.std.proofs.Common.{refl, arith, length-drop, length-take, rules}
+use Rattle.std.proofs.Common.{refl, arith, length-drop, length-take}
 use Rattle.placement.specs.Row.{row_to_lay}
 use Rattle.placement_rows.proofs.Runs.{moved_head}
 use Rattle.placement_rows.proofs.rows.head.Goals as goal

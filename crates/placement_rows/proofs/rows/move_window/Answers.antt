@@ -1,5 +1,5 @@
 -- The window copied down, and the point after it.
-use Rattle.std.proofs.Common.{◌∙◌, rules}
+use Rattle.std.proofs.Common.{◌∙◌}
 use Rattle.placement_rows.proofs.Runs.{window_moved_lem}
 use Rattle.placement_rows.proofs.rows.move_window.Goals as goal
 

@@ -1,7 +1,5 @@
 -- The loop's invariant: the first i words are copied.
-use Rattle.std.proofs.Common.{◌≡◌, ◌-◌, ◌≤◌, length, drop, ◌∙◌, arith, length-set, rules}
-use lib.Seq.{paste-zero}
-use Rattle.placement.specs.InPlace.{copied_within}
+use Rattle.std.proofs.Common.{arith, length-set, rules}
 use Rattle.placement_rows.proofs.Turns.{copy_next, copy_still}
 use Rattle.placement_rows.proofs.words.copy_down.Goals as goal
 

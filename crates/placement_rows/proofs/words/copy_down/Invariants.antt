@@ -1,8 +1,6 @@
 -- The loop's invariant: the first i words are copied.
-use Rattle.std.proofs.Common.{◌≡◌, ◌-◌, ◌≤◌, length, drop, ◌∙◌, arith, length-set, rules}
-use lib.Seq.{paste-zero}
+use Rattle.std.proofs.Common.{◌≡◌, ◌-◌, ◌≤◌, length}
 use Rattle.placement.specs.InPlace.{copied_within}
-use Rattle.placement_rows.proofs.Turns.{copy_next, copy_still}
 use Rattle.placement_rows.proofs.words.copy_down.Given as goal
 
 abbrev pub invariant-loop-i : goal.invariant-loop-i

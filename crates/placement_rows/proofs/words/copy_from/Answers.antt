@@ -1,6 +1,5 @@
 -- The loop's invariant: the first i words are written.
-use Rattle.std.proofs.Common.{◌≡◌, ◌-◌, ◌≤◌, length, ◌∙◌, arith, length-set, rules}
-use lib.Seq.{paste, paste-zero}
+use Rattle.std.proofs.Common.{arith, length-set, rules}
 use Rattle.placement_rows.proofs.Turns.{paste_next}
 use Rattle.placement_rows.proofs.words.copy_from.Goals as goal
 

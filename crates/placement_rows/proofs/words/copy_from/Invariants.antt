@@ -1,7 +1,6 @@
 -- The loop's invariant: the first i words are written.
-use Rattle.std.proofs.Common.{◌≡◌, ◌-◌, ◌≤◌, length, ◌∙◌, arith, length-set, rules}
-use lib.Seq.{paste, paste-zero}
-use Rattle.placement_rows.proofs.Turns.{paste_next}
+use Rattle.std.proofs.Common.{◌≡◌, ◌-◌, ◌≤◌, length}
+use lib.Seq.{paste}
 use Rattle.placement_rows.proofs.words.copy_from.Given as goal
 
 abbrev pub invariant-loop-i : goal.invariant-loop-i
