@@ -1,6 +1,6 @@
 -- What the calls and their answers of the lists say, and each clause of the guarantee computed on them, with the equality that the
 -- contracts use.
-use Rattle.std.specs.Prelude.{ℕ, true, false, [], ◌∷◌, ◌≡◌, refl, take, replicate}
+use Rattle.std.specs.Prelude.{[], ◌∷◌, ◌≡◌, refl, take, replicate}
 use Rattle.terms.specs.Below.{every_below, sum_below, count_below}
 use Rattle.terms.specs.Rows.{all_equal}
 use Rattle.terms.specs.Search.{first_below}
@@ -26,7 +26,7 @@ use Rattle.labels.specs.Counted.{managed, free_uncounted, counts_fit, index_take
 use Rattle.labels.specs.Decisions.{none, code_decided, room_decided, in_use, inc_decided, dec_decided}
 use Rattle.labels.specs.Labels.{labels_well, differ, slot_sum, label_taken, slot_taken, class_slot, holds_class, tables_lent, codes_allowed, slots_hold_classes, classes_distinct, slots_summed, label_raised, label_lowered}
 use Rattle.labels.specs.Opening.{labels_opened}
-use Rattle.store_definitions.specs.Answers.{kept, done, is, refused, refused_after, Output, output}
+use Rattle.store_definitions.specs.Answers.{kept, done, is, refused, refused_after, output}
 use Rattle.store_definitions.specs.Opening.{opened_memory, opened}
 use Rattle.store_definitions.specs.Counting.{inc_test, incremented, inc_spec, pair_decided, pair_done, adjust_from, adjust_spec, dec_test, place_after_dec, decremented, dec_spec, count_spec, live_number_spec, free_start_spec}
 use Rattle.store_definitions.specs.Rows.{compacted_rows, grown_rows, short, room_made, compact_spec, copy_of, copy_decided, copy_written, copy_spec}
@@ -35,7 +35,7 @@ use Rattle.store_definitions.specs.Bounds.{bounds_hold, rotation_allowed, labels
 use Rattle.store_definitions.specs.Decisions.{form_decided, live, touch_decided}
 use Rattle.store_definitions.specs.WellFormed.{table_length_well, store_length_well, free_start_well, empty_uncounted, places_distinct, places_end, sequence_well, well_formed}
 use Rattle.guarantee.specs.Calls.{copy_call, count_call, live_number_call, free_start_call}
-use Rattle.guarantee.specs.Run.{add, inc, dec, compact, after}
+use Rattle.guarantee.specs.Run.{add, inc, compact, after}
 use Rattle.guarantee.specs.History.{dead, alive, pair_changes, pairs_changes, joined_points, row_of_add, changed_by, recorded, history}
 use Rattle.guarantee.specs.Guarantee.{number_in, live_indices}
 use Rattle.guarantee.specs.CaseLists.{plain, turning, small_plain, small_turning, small_labelled, fresh, past, store, answer, gave, list_a, list_b, list_c, list_four, list_full, list_d, list_g, list_adjust, refused_adjust, list_insert, list_small, third, list_labelled, list_zeros, a_nan, other_nan, list_nan}

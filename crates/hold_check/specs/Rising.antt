@@ -7,7 +7,7 @@ use Rattle.std.proofs.Math.Bool.{or-true, beq}
 use Rattle.std.proofs.Math.Path.{refl, sym}
 use Rattle.std.proofs.Common.{ap, ◌∙◌}
 use borrow.Author.Tests.{eq-eqb, ne_eqb, eqb-false, lt-ltb, ltb-true}
-use Rattle.terms.specs.Below.{one, every_below, every_at, every_make, sum_below, count_below, sum_tight}
+use Rattle.terms.specs.Below.{one, every_below, every_at, every_make, count_below, sum_tight}
 use Rattle.terms.specs.Entries.{any_default}
 use Rattle.store_definitions.specs.WellFormed.{empty_uncounted, places_distinct}
 use Rattle.store_check.specs.Entries.{counts_live}

@@ -1,7 +1,7 @@
 -- A list that is at most two runs of indices: first, first + 1, .. below an end, and then 0, 1, .. Where the table's places rise along
 -- the runs and over the seam, they rise along the list.
-use Rattle.std.specs.Prelude.{◌≡◌, ℕ, zero, suc, ◌+◌, ◌-◌, ◌<◌, ◌≤◌, Bool, true, false, cond, ◌&&◌, leb, List, [], ◌∷◌, ◌++◌, length, take, ◌≢◌, nat_eq, nat_le, nat_lt, slice_index, slice_index_or, refl}
-use Rattle.std.proofs.Math.Decide.{dec_lt, ℕ_discrete}
+use Rattle.std.specs.Prelude.{◌≡◌, ℕ, zero, suc, ◌+◌, ◌-◌, ◌<◌, ◌≤◌, Bool, true, false, cond, ◌&&◌, leb, List, [], length, take, ◌≢◌, nat_eq, nat_le, nat_lt, slice_index, slice_index_or, refl}
+use Rattle.std.proofs.Math.Decide.{dec_lt}
 use Rattle.std.proofs.Common.{arith, ⊎_elim, sym, ap, ◌∙◌, take-suc}
 use borrow.Author.Tests.{eqb-true, leb-false, lt-ltb, le-ltb, le-leb, lt-leb}
 use Rattle.terms.specs.Below.{one, every_below, every_at, sum_below, count_below, fails, below_or_last}

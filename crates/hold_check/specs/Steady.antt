@@ -16,11 +16,10 @@ use Rattle.labels.specs.Counted.{counted, managed, free_uncounted}
 use Rattle.labels.specs.CountedLaws.{beq_same}
 use Rattle.store_definitions.specs.declared.Store.{Store}
 use Rattle.store_definitions.specs.Parts.{base_of, table_length}
-use Rattle.store_definitions.specs.WellFormed.{empty_uncounted, places_distinct, places_end}
+use Rattle.store_definitions.specs.WellFormed.{empty_uncounted, places_end}
 use Rattle.store_laws.specs.FigureLaws.{one_of_two}
 use Rattle.store_check.specs.Entries.{counts_live}
 use Rattle.store_check.specs.PointsTest.{points_test, PointsReady}
-use Rattle.hold_definitions.specs.Listed.{times}
 use Rattle.hold_check.specs.ListedOnce.{listed_once}
 use Rattle.hold_check.specs.Rising.{Rises, rises_within, single_counts, named, rising_distinct, rising_listed}
 use Rattle.hold_check.specs.Runs.{RunsRise}

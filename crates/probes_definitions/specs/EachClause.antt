@@ -1,7 +1,7 @@
 -- Each clause of a product's well-formedness broken alone: the next set answers 1, and so do its kinds and the reading of the
 -- tallies. The product that was not broken does not.
-use Rattle.std.specs.Prelude.{ℕ, ◌+◌, Bool, true, false, ◌&&◌, List, [], ◌∷◌, ◌++◌, ◌≡◌, refl, replicate, not}
-use Rattle.terms.specs.Below.{one, every_below, sum_below, count_below}
+use Rattle.std.specs.Prelude.{ℕ, Bool, true, false, ◌&&◌, List, [], ◌∷◌, ◌++◌, ◌≡◌, refl, replicate, not}
+use Rattle.terms.specs.Below.{every_below, sum_below, count_below}
 use Rattle.terms.specs.Rows.{all_equal}
 use Rattle.terms.specs.Search.{first_below}
 use Rattle.decimal.specs.Field.{column, columns, field, digit, value_from}
@@ -24,7 +24,7 @@ use Rattle.labels.specs.Decisions.{in_use, code_decided, room_decided, dec_decid
 use Rattle.labels.specs.Labels.{holds_class, class_slot, slot_taken, label_taken, label_lowered, slot_sum, differ, tables_lent as label_tables_lent, codes_allowed, slots_hold_classes, classes_distinct, slots_summed, labels_well}
 use Rattle.labels.specs.Opening.{labels_opened}
 use Rattle.store_definitions.specs.declared.Shape.{Shape}
-use Rattle.store_definitions.specs.Answers.{Answer, is}
+use Rattle.store_definitions.specs.Answers.{Answer}
 use Rattle.store_definitions.specs.Opening.{open_decided, opened_memory, opened, open_spec}
 use Rattle.store_definitions.specs.Counting.{dec_test, place_after_dec, decremented, dec_spec}
 use Rattle.store_definitions.specs.Rows.{compacted_rows, grown_rows, short, room_made, copy_of}

@@ -4,9 +4,9 @@ use native.Mathlib.Omega.{arith}
 use mathlib.Core.List.{List}
 use mathlib.Core.Bool.{Bool, true, false, ◌&&◌, ◌||◌, not, beq, false≢true}
 use mathlib.Core.Path.{◌≡◌, refl, sym, ◌∙◌, ap}
-use lib.ListN.{length, get_or}
+use lib.ListN.{get_or}
 use lib.Dec.{leb, ltb, eqb}
-use borrow.Author.Tests.{eq-eqb, ne_eqb, le-leb, ltb-true}
+use borrow.Author.Tests.{eq-eqb, ne_eqb, ltb-true}
 use Rattle.terms.specs.Below.{one, both, every_below, every_at, every_and}
 use Rattle.terms.specs.Entries.{any_default}
 use Rattle.interval_store_manager.specs.Intervals.{is_free, free_number}

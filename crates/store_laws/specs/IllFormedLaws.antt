@@ -1,5 +1,5 @@
 -- An ill-formed store gives 1 to every call, and nothing is changed.
-use Rattle.std.specs.Prelude.{ℕ, Bool, false, List, [], ◌≡◌, Float}
+use Rattle.std.specs.Prelude.{ℕ, Bool, false, List, ◌≡◌, Float}
 use Rattle.interval_store_manager.specs.Calls.{refuse}
 use Rattle.store_definitions.specs.Memory.{PointStore}
 use Rattle.store_definitions.specs.Answers.{refused, refused_after, outcome, output}

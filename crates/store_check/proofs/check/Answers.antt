@@ -1,5 +1,4 @@
 -- Each way out is one of the laws of `CheckLaws`.
-use borrow.Author.Rules.{rules}
 use native.Mathlib.Omega.{arith}
 use mathlib.Core.Bool.{false≢true}
 use mathlib.Core.Path.{sym, ◌∙◌}

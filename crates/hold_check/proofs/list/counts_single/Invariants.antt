@@ -1,8 +1,6 @@
 -- The invariant: what holds of the entries below i.
-use Rattle.std.proofs.Common.{◌≡◌, ℕ, ◌-◌, ◌≤◌, ltb, get_or, refl, arith, rules}
-use Rattle.terms.specs.Below.{every_below}
+use Rattle.std.proofs.Common.{◌≡◌, ◌-◌, ◌≤◌}
 use Rattle.hold_check.specs.Rising.{single_counts}
-use Rattle.hold_check.proofs.TestLaws.{every_more}
 use Rattle.hold_check.proofs.list.counts_single.Given as goal
 
 abbrev pub invariant-loop-i : goal.invariant-loop-i

@@ -1,5 +1,5 @@
 -- Each return follows from the tests that led to it.
-use Rattle.std.proofs.Common.{sym, ◌∙◌, rules}
+use Rattle.std.proofs.Common.{sym, ◌∙◌}
 use Rattle.hold_check.specs.CheckLaws.{list_holds}
 use Rattle.hold_check.proofs.list.list_well.Goals as goal
 

@@ -1,5 +1,5 @@
 -- Each return follows from the test that led to it.
-use Rattle.std.proofs.Common.{arith, rules, le-ltb, lt-ltb}
+use Rattle.std.proofs.Common.{le-ltb, lt-ltb}
 use Rattle.hold_check.specs.ListedOnce.{entry_listed, entry_marked}
 use Rattle.hold_check.proofs.list.mark_entry.Goals as goal
 

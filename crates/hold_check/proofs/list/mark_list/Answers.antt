@@ -1,7 +1,7 @@
 -- The invariant: what is found of the entries before k, which are marked.
-use Rattle.std.proofs.Common.{◌≡◌, ℕ, suc, ◌+◌, ◌-◌, ◌≤◌, [], ◌∷◌, ◌++◌, length, get_or, take, refl, ap, ◌∙◌, add-one, arith, take-suc, rules}
+use Rattle.std.proofs.Common.{◌≡◌, ℕ, suc, ◌+◌, ◌≤◌, [], ◌∷◌, ◌++◌, length, get_or, take, refl, ap, ◌∙◌, add-one, arith, take-suc}
 use Rattle.hold_definitions.specs.Listed.{every_named}
-use Rattle.hold_check.specs.ListedOnce.{listed_once, Marks, marks_none, marks_more, listed_more}
+use Rattle.hold_check.specs.ListedOnce.{listed_once, marks_none, marks_more, listed_more}
 use Rattle.hold_check.proofs.list.mark_list.Goals as goal
 
 pub loop-k-init : goal.loop-k-init

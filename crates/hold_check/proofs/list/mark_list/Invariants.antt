@@ -1,7 +1,6 @@
 -- The invariant: what is found of the entries before k, which are marked.
-use Rattle.std.proofs.Common.{◌≡◌, ℕ, suc, ◌+◌, ◌-◌, ◌≤◌, [], ◌∷◌, ◌++◌, length, get_or, take, refl, ap, ◌∙◌, add-one, arith, take-suc, rules}
-use Rattle.hold_definitions.specs.Listed.{every_named}
-use Rattle.hold_check.specs.ListedOnce.{listed_once, Marks, marks_none, marks_more, listed_more}
+use Rattle.std.proofs.Common.{◌≡◌, ◌-◌, ◌≤◌, length, take}
+use Rattle.hold_check.specs.ListedOnce.{listed_once, Marks}
 use Rattle.hold_check.proofs.list.mark_list.Given as goal
 
 abbrev pub invariant-loop-k : goal.invariant-loop-k

@@ -1,5 +1,4 @@
 -- The marks are a local array with no mark.
-use Rattle.std.proofs.Common.{rules}
 use Rattle.hold_check.proofs.MarkLaws.{no_marks}
 use Rattle.hold_check.proofs.list.once_in_64.Goals as goal
 

@@ -1,6 +1,5 @@
 -- The invariant: the first k entries are copied.
-use Rattle.std.proofs.Common.{◌≡◌, suc, ◌-◌, ◌≤◌, ◌++◌, length, get_or, take, drop, refl, ◌∙◌, arith, length-set, rules}
-use Rattle.hold_check.proofs.MarkLaws.{copied_none, copied_more, copied_all}
+use Rattle.std.proofs.Common.{◌≡◌, ◌-◌, ◌≤◌, ◌++◌, length, take, drop}
 use Rattle.hold_check.proofs.read.copy_list.Given as goal
 
 abbrev pub invariant-loop-k : goal.invariant-loop-k

@@ -1,5 +1,5 @@
 -- The invariant: what holds of the entries below k.
-use Rattle.std.proofs.Common.{◌≡◌, ℕ, ◌-◌, ◌≤◌, ltb, get_or, refl, arith, rules}
+use Rattle.std.proofs.Common.{ℕ, ltb, get_or, refl, arith}
 use Rattle.terms.specs.Below.{every_below}
 use Rattle.hold_check.proofs.TestLaws.{every_more}
 use Rattle.hold_check.proofs.rise.listed_below.Goals as goal

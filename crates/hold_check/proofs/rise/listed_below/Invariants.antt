@@ -1,7 +1,6 @@
 -- The invariant: what holds of the entries below k.
-use Rattle.std.proofs.Common.{◌≡◌, ℕ, ◌-◌, ◌≤◌, ltb, get_or, refl, arith, rules}
+use Rattle.std.proofs.Common.{◌≡◌, ◌-◌, ◌≤◌, ltb, get_or}
 use Rattle.terms.specs.Below.{every_below}
-use Rattle.hold_check.proofs.TestLaws.{every_more}
 use Rattle.hold_check.proofs.rise.listed_below.Given as goal
 
 abbrev pub invariant-loop-k : goal.invariant-loop-k

@@ -1,5 +1,5 @@
 -- The invariant: the falls before i are counted.
-use Rattle.std.proofs.Common.{◌≡◌, ℕ, ◌+◌, ◌-◌, ◌≤◌, leb, get_or, refl, arith, rules}
+use Rattle.std.proofs.Common.{◌+◌, leb, get_or, refl, arith}
 use Rattle.terms.specs.Below.{sum_below, count_below, count_le}
 use Rattle.hold_check.specs.Runs.{falls}
 use Rattle.hold_check.proofs.RiseLaws.{fall_most, count_more}

@@ -1,8 +1,7 @@
 -- The invariant: where no place fell, those of the entries before k rise.
-use Rattle.std.proofs.Common.{◌≡◌, ℕ, suc, ◌+◌, ◌-◌, ◌<◌, ◌≤◌, true, ◌&&◌, eqb, ltb, leb, length, get_or, take, sym, refl, ap, ◌∙◌, arith, rules, ltb-true, eqb-true, leb-true}
-use mathlib.Core.Bool.{false≢true}
-use Rattle.terms.specs.Below.{both, every_below, every_at}
-use Rattle.hold_check.specs.Rising.{Rises, rises_none, rises_within}
+use Rattle.std.proofs.Common.{ℕ, suc, ◌≤◌, ltb, length, get_or, sym, ◌∙◌, arith, ltb-true}
+use Rattle.terms.specs.Below.{every_at}
+use Rattle.hold_check.specs.Rising.{rises_none}
 use Rattle.hold_check.proofs.RiseLaws.{fall_most, rises_step}
 use Rattle.hold_check.proofs.rise.places_rise.Goals as goal
 

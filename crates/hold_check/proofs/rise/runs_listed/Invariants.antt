@@ -1,8 +1,7 @@
 -- The invariant: what holds of the entries below k.
-use Rattle.std.proofs.Common.{◌≡◌, ℕ, ◌+◌, ◌-◌, ◌≤◌, eqb, get_or, refl, arith, rules}
+use Rattle.std.proofs.Common.{◌≡◌, ◌+◌, ◌-◌, ◌≤◌, eqb, get_or}
 use Rattle.terms.specs.Below.{every_below}
-use Rattle.hold_check.specs.Runs.{turned, runs_listed}
-use Rattle.hold_check.proofs.TestLaws.{every_more}
+use Rattle.hold_check.specs.Runs.{turned}
 use Rattle.hold_check.proofs.rise.runs_listed.Given as goal
 
 abbrev pub invariant-loop-k : goal.invariant-loop-k

@@ -1,6 +1,5 @@
 -- The tests of the runs, put together.
-use Rattle.std.proofs.Common.{◌-◌, get_or, arith, rules}
-use mathlib.Core.Bool.{false≢true}
+use Rattle.std.proofs.Common.{◌-◌, get_or}
 use Rattle.hold_check.proofs.RiseLaws.{some_held, ends_within, runs_tested}
 use Rattle.hold_check.proofs.rise.runs_rise.Goals as goal
 

@@ -1,6 +1,5 @@
 -- The invariant: what holds of the entries below i.
-use Rattle.std.proofs.Common.{◌≡◌, ◌-◌, ◌≤◌, refl, arith, rules}
-use borrow.Author.Rules.{scaled_Fits}
+use Rattle.std.proofs.Common.{refl, arith}
 use Rattle.terms.specs.Below.{every_below}
 use Rattle.hold_check.specs.Steady.{entries_held}
 use Rattle.hold_check.proofs.SteadyLaws.{entries_more}

@@ -1,9 +1,6 @@
 -- The invariant: what holds of the entries below i.
-use Rattle.std.proofs.Common.{◌≡◌, ◌-◌, ◌≤◌, refl, arith, rules}
-use borrow.Author.Rules.{scaled_Fits}
-use Rattle.terms.specs.Below.{every_below}
+use Rattle.std.proofs.Common.{◌≡◌, ◌-◌, ◌≤◌}
 use Rattle.hold_check.specs.Steady.{entries_held}
-use Rattle.hold_check.proofs.SteadyLaws.{entries_more}
 use Rattle.hold_check.proofs.steady.entries_held.Given as goal
 
 abbrev pub invariant-loop-i : goal.invariant-loop-i

@@ -1,5 +1,5 @@
 -- A truth value as a number.
-use Rattle.std.proofs.Common.{ℕ, not, ◌&&◌, eqb, ap, rules}
+use Rattle.std.proofs.Common.{ℕ, not, ◌&&◌, eqb, ap}
 use mathlib.Core.Bool.{beq}
 use Rattle.hold_check.specs.Steady.{entry_held}
 use Rattle.hold_check.proofs.RiseLaws.{fall_one}

@@ -1,6 +1,5 @@
 -- The laws of one interval and of two.
-use Rattle.std.proofs.Common.{◌-◌, get_or, sym, ◌∙◌, arith, rules}
-use mathlib.Core.Bool.{false≢true}
+use Rattle.std.proofs.Common.{◌-◌, get_or, sym, ◌∙◌, arith}
 use Rattle.hold_check.proofs.SteadyLaws.{pair_tested, pair_found}
 use Rattle.hold_check.proofs.steady.pair_of.Goals as goal
 

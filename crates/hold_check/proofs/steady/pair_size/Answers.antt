@@ -1,5 +1,5 @@
 -- One interval, or two.
-use Rattle.std.proofs.Common.{refl, rules, eq-eqb, ne_eqb}
+use Rattle.std.proofs.Common.{eq-eqb, ne_eqb}
 use Rattle.hold_check.specs.Steady.{pair_size}
 use Rattle.hold_check.proofs.steady.pair_size.Goals as goal
 

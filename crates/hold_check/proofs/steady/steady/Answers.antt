@@ -1,10 +1,9 @@
 -- The tests in turn, and then the law of a hold as its own calls leave it.
-use Rattle.std.proofs.Common.{sym, ◌∙◌, arith, rules}
-use mathlib.Core.Bool.{false≢true}
+use Rattle.std.proofs.Common.{sym, ◌∙◌, arith}
 use Rattle.interval_store_manager.specs.Sound.{free_le_capacity}
 use Rattle.store_definitions.specs.Parts.{table_length}
 use Rattle.hold_check.specs.Steady.{steady_found}
-use Rattle.hold_check.proofs.SteadyLaws.{few_tested, table_most, shingles, counts_room, places_room, row_most}
+use Rattle.hold_check.proofs.SteadyLaws.{few_tested, table_most, shingles, row_most}
 use Rattle.hold_check.proofs.steady.steady.Goals as goal
 
 pub pair_of-pair-requires : goal.pair_of-pair-requires

@@ -1,5 +1,5 @@
 -- The difference, wrapped or not.
-use Rattle.std.proofs.Common.{arith, rules}
+use Rattle.std.proofs.Common.{arith}
 use Rattle.hold_check.proofs.SteadyLaws.{within_is}
 use Rattle.hold_check.proofs.steady.within.Goals as goal
 

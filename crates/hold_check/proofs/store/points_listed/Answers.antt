@@ -1,11 +1,11 @@
 -- A hold as its own calls leave it, or else the table and then the places.
-use Rattle.std.proofs.Common.{Bool, ◌&&◌, sym, refl, ap, ◌∙◌, arith, rules}
+use Rattle.std.proofs.Common.{Bool, ◌&&◌, sym, ap, ◌∙◌}
 use mathlib.Core.Bool.{false≢true}
 use Rattle.store_definitions.specs.WellFormed.{places_distinct}
 use Rattle.store_definitions.specs.Parts.{table_length}
 use Rattle.store_check.specs.PointsTest.{points_are}
 use Rattle.hold_check.proofs.StoreLaws.{list_distinct, list_known}
-use Rattle.hold_check.proofs.SteadyLaws.{table_most, counts_room, places_room}
+use Rattle.hold_check.proofs.SteadyLaws.{table_most, places_room}
 use Rattle.hold_check.proofs.store.points_listed.Goals as goal
 
 pub live_rise-rises-requires : goal.live_rise-rises-requires

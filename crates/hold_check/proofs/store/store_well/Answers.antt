@@ -1,5 +1,5 @@
 -- Each way out is one of the laws of `store_check`.
-use Rattle.std.proofs.Common.{length, sym, ◌∙◌, arith, rules}
+use Rattle.std.proofs.Common.{length, sym, ◌∙◌, arith}
 use mathlib.Core.Bool.{false≢true}
 use lib.ListN.{length-replicate}
 use Rattle.store_definitions.specs.Memory.{point_store}

@@ -1,8 +1,7 @@
 -- The invariant: the first k entries are made.
-use Prim.Native.Nat.{◌≤◌, ◌-◌}
 use native.Mathlib.Omega.{arith}
-use mathlib.Core.Path.{◌≡◌, refl, sym, ◌∙◌}
-use lib.ListN.{length, take, length-set}
+use mathlib.Core.Path.{◌≡◌, sym, ◌∙◌}
+use lib.ListN.{length, length-set}
 use borrow.Author.Rules.{rules}
 use Rattle.probe_readings.specs.Kinds.{kinds_of, kinds_of_length}
 use Rattle.probe_readings.specs.Entries.{written_more, written_all, kinds_at}

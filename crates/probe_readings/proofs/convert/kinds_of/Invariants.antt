@@ -1,11 +1,8 @@
 -- The invariant: the first k entries are made.
 use Prim.Native.Nat.{◌≤◌, ◌-◌}
-use native.Mathlib.Omega.{arith}
-use mathlib.Core.Path.{◌≡◌, refl, sym, ◌∙◌}
-use lib.ListN.{length, take, length-set}
-use borrow.Author.Rules.{rules}
-use Rattle.probe_readings.specs.Kinds.{kinds_of, kinds_of_length}
-use Rattle.probe_readings.specs.Entries.{written_more, written_all, kinds_at}
+use mathlib.Core.Path.{◌≡◌}
+use lib.ListN.{length, take}
+use Rattle.probe_readings.specs.Kinds.{kinds_of}
 use Rattle.probe_readings.proofs.convert.kinds_of.Given as goal
 
 abbrev pub invariant-loop-k : goal.invariant-loop-k

@@ -1,11 +1,7 @@
 -- The invariant: what is left decides.
-use Prim.Native.Nat.{◌≤◌, ◌-◌}
 use native.Mathlib.Omega.{arith}
-use mathlib.Core.Path.{◌≡◌, refl, sym, ◌∙◌}
-use lib.ListN.{length, drop}
-use borrow.Author.Rules.{rules}
+use mathlib.Core.Path.{sym, ◌∙◌}
 use borrow.Author.Tests.{lt-ltb, le-ltb}
-use Rattle.probes_definitions.specs.Readings.{any_above}
 use Rattle.probe_readings.specs.Deciding.{above_turn, above_end, or-true, or-false}
 use Rattle.probe_readings.proofs.decide.any_above.Goals as goal
 

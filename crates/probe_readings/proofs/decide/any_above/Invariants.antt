@@ -1,12 +1,8 @@
 -- The invariant: what is left decides.
 use Prim.Native.Nat.{◌≤◌, ◌-◌}
-use native.Mathlib.Omega.{arith}
-use mathlib.Core.Path.{◌≡◌, refl, sym, ◌∙◌}
+use mathlib.Core.Path.{◌≡◌}
 use lib.ListN.{length, drop}
-use borrow.Author.Rules.{rules}
-use borrow.Author.Tests.{lt-ltb, le-ltb}
 use Rattle.probes_definitions.specs.Readings.{any_above}
-use Rattle.probe_readings.specs.Deciding.{above_turn, above_end, or-true, or-false}
 use Rattle.probe_readings.proofs.decide.any_above.Given as goal
 
 abbrev pub invariant-loop-k : goal.invariant-loop-k

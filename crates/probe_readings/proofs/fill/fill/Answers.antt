@@ -1,9 +1,7 @@
 -- The invariant: the first k words are those of the filled set.
-use Prim.Native.Nat.{◌≤◌, ◌-◌}
 use native.Mathlib.Omega.{arith}
-use mathlib.Core.Path.{◌≡◌, refl, sym, ◌∙◌}
-use lib.ListN.{length, take, length-set}
-use borrow.Author.Rules.{rules}
+use mathlib.Core.Path.{sym, ◌∙◌}
+use lib.ListN.{length-set}
 use Rattle.probes_definitions.specs.Readings.{filled, of_kinds}
 use Rattle.probes_definitions.specs.ReadingLaws.{filled_length, kinds_length}
 use Rattle.probe_readings.specs.Entries.{written_more, written_all, filled_at}

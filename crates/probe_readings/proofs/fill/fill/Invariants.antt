@@ -1,12 +1,8 @@
 -- The invariant: the first k words are those of the filled set.
 use Prim.Native.Nat.{◌≤◌, ◌-◌}
-use native.Mathlib.Omega.{arith}
-use mathlib.Core.Path.{◌≡◌, refl, sym, ◌∙◌}
-use lib.ListN.{length, take, length-set}
-use borrow.Author.Rules.{rules}
+use mathlib.Core.Path.{◌≡◌}
+use lib.ListN.{length, take}
 use Rattle.probes_definitions.specs.Readings.{filled, of_kinds}
-use Rattle.probes_definitions.specs.ReadingLaws.{filled_length, kinds_length}
-use Rattle.probe_readings.specs.Entries.{written_more, written_all, filled_at}
 use Rattle.probe_readings.proofs.fill.fill.Given as goal
 
 abbrev pub invariant-loop-k : goal.invariant-loop-k

@@ -1,11 +1,9 @@
 -- The invariant: the first k tallies are raised.
-use Prim.Native.Nat.{◌≤◌, ◌+◌, ◌-◌}
+use Prim.Native.Nat.{◌+◌}
 use native.Mathlib.Omega.{arith}
-use mathlib.Core.Path.{◌≡◌, refl, sym, ap, ◌∙◌}
-use lib.ListN.{length, get_or, take, length-set}
-use lib.Dec.{eqb}
+use mathlib.Core.Path.{◌≡◌, sym, ap, ◌∙◌}
+use lib.ListN.{length, get_or, length-set}
 use borrow.Author.Rules.{rules}
-use Rattle.terms.specs.Below.{one_le}
 use Rattle.probe_readings.specs.Kinds.{tallied_kinds}
 use Rattle.probe_readings.specs.Entries.{written_more, written_all, tallied_entry, tallied_long}
 use Rattle.probe_readings.proofs.tally.tallied.Goals as goal

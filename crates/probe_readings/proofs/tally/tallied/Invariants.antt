@@ -1,13 +1,8 @@
 -- The invariant: the first k tallies are raised.
-use Prim.Native.Nat.{◌≤◌, ◌+◌, ◌-◌}
-use native.Mathlib.Omega.{arith}
-use mathlib.Core.Path.{◌≡◌, refl, sym, ap, ◌∙◌}
-use lib.ListN.{length, get_or, take, length-set}
-use lib.Dec.{eqb}
-use borrow.Author.Rules.{rules}
-use Rattle.terms.specs.Below.{one_le}
+use Prim.Native.Nat.{◌≤◌, ◌-◌}
+use mathlib.Core.Path.{◌≡◌}
+use lib.ListN.{length, take}
 use Rattle.probe_readings.specs.Kinds.{tallied_kinds}
-use Rattle.probe_readings.specs.Entries.{written_more, written_all, tallied_entry, tallied_long}
 use Rattle.probe_readings.proofs.tally.tallied.Given as goal
 
 abbrev pub invariant-loop-k : goal.invariant-loop-k

@@ -1,5 +1,4 @@
 -- The clauses as they stand.
-use borrow.Author.Rules.{rules}
 use mathlib.Core.Path.{refl}
 use Rattle.probes_definitions.specs.WellFormed.{eight_probes}
 use Rattle.probes_check.proofs.check.eight_probes.Goals as goal

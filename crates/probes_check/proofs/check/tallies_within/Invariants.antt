@@ -1,14 +1,9 @@
 -- The invariant: what was found of the first k.
-use Prim.Native.Nat.{ℕ, ◌-◌, ◌≤◌}
-use native.Mathlib.Omega.{arith}
-use mathlib.Core.Path.{◌≡◌, refl, sym, ap, ◌∙◌}
-use mathlib.Core.Bool.{Bool, ◌&&◌}
-use lib.ListN.{length, get_or}
+use Prim.Native.Nat.{◌-◌, ◌≤◌}
+use mathlib.Core.Path.{◌≡◌}
+use lib.ListN.{get_or}
 use lib.Dec.{leb}
-use borrow.Author.Rules.{rules}
 use Rattle.terms.specs.Below.{every_below}
-use Rattle.probes_definitions.specs.WellFormed.{tallies_within}
-use Rattle.probes_check.specs.CheckLaws.{every_more}
 use Rattle.probes_check.proofs.check.tallies_within.Given as goal
 
 abbrev pub invariant-loop-k : goal.invariant-loop-k

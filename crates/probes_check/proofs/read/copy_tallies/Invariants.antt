@@ -1,10 +1,7 @@
 -- The invariant: the first k entries are copied.
 use Prim.Native.Nat.{◌-◌, ◌≤◌}
-use native.Mathlib.Omega.{arith}
-use mathlib.Core.Path.{◌≡◌, refl, sym, ◌∙◌}
-use lib.ListN.{length, get_or, take, length-set}
-use borrow.Author.Rules.{rules}
-use Rattle.probes_check.specs.CheckLaws.{copied_more, copied_all}
+use mathlib.Core.Path.{◌≡◌}
+use lib.ListN.{length, take}
 use Rattle.probes_check.proofs.read.copy_tallies.Given as goal
 
 abbrev pub invariant-loop-k : goal.invariant-loop-k

@@ -1,8 +1,5 @@
 -- Each return follows from the tests that led to it; the product is at most 1,024 × 64.
-use borrow.Author.Rules.{rules}
 use Prim.Native.Nat.{◌%◌}
-use native.Mathlib.Nat.{mul-le-mul_left, mul-le-mul_right}
-use native.Mathlib.Omega.{arith}
 use borrow.Author.Tests.{le-leb, lt-leb, eq-eqb, ne_eqb}
 use Rattle.store_definitions.specs.Bounds.{bounds_hold}
 use Rattle.store_check.proofs.bounds.bounds_hold.Goals as goal

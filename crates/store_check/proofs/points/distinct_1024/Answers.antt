@@ -1,5 +1,4 @@
 -- The marks are a local array with no mark.
-use borrow.Author.Rules.{rules}
 use Rattle.store_check.proofs.PlaceLaws.{none_marked}
 use Rattle.store_check.proofs.points.distinct_1024.Goals as goal
 

@@ -1,8 +1,6 @@
 -- The invariant: what holds of the entries below i.
-use Prim.Native.Nat.{◌≤◌, ◌-◌}
 use native.Mathlib.Omega.{arith}
-use mathlib.Core.Path.{◌≡◌, refl}
-use borrow.Author.Rules.{rules, scaled_Fits}
+use mathlib.Core.Path.{refl}
 use Rattle.terms.specs.Below.{every_below}
 use Rattle.store_check.specs.Entries.{entries_well}
 use Rattle.store_check.proofs.EntryLaws.{entries_more}

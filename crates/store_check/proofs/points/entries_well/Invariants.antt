@@ -1,11 +1,7 @@
 -- The invariant: what holds of the entries below i.
 use Prim.Native.Nat.{◌≤◌, ◌-◌}
-use native.Mathlib.Omega.{arith}
-use mathlib.Core.Path.{◌≡◌, refl}
-use borrow.Author.Rules.{rules, scaled_Fits}
-use Rattle.terms.specs.Below.{every_below}
+use mathlib.Core.Path.{◌≡◌}
 use Rattle.store_check.specs.Entries.{entries_well}
-use Rattle.store_check.proofs.EntryLaws.{entries_more}
 use Rattle.store_check.proofs.points.entries_well.Given as goal
 
 abbrev pub invariant-loop-i : goal.invariant-loop-i

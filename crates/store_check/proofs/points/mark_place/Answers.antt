@@ -1,5 +1,4 @@
 -- Each return follows from the test that led to it.
-use borrow.Author.Rules.{rules}
 use borrow.Author.Tests.{eq-eqb, ne_eqb}
 use Rattle.store_check.specs.Entries.{place_met, place_marked}
 use Rattle.store_check.proofs.points.mark_place.Goals as goal

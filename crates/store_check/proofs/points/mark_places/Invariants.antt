@@ -1,16 +1,10 @@
 -- The invariant: the places of the entries below i are marked, and whether they are distinct.
-use Prim.Native.Nat.{ℕ, ◌+◌, ◌≤◌, ◌<◌, ◌-◌}
-use native.Mathlib.Omega.{arith}
-use mathlib.Core.Bool.{Bool, not}
-use mathlib.Core.List.{List}
-use mathlib.Core.Path.{◌≡◌, refl, sym, ◌∙◌, ap, subst⁻¹}
-use lib.ListN.{length, get_or}
-use borrow.Author.Rules.{scaled_Fits}
-use Rattle.terms.specs.Below.{every_below}
+use Prim.Native.Nat.{◌≤◌, ◌-◌}
+use mathlib.Core.Bool.{not}
+use mathlib.Core.Path.{◌≡◌}
+use lib.ListN.{length}
 use Rattle.store_definitions.specs.WellFormed.{places_distinct}
-use Rattle.store_check.specs.Entries.{place_met, place_marked}
-use Rattle.terms.specs.Entries.{any_default}
-use Rattle.store_check.proofs.PlaceLaws.{PlacesMarked, none_yet, marks_more, distinct_more}
+use Rattle.store_check.proofs.PlaceLaws.{PlacesMarked}
 use Rattle.store_check.proofs.points.mark_places.Given as goal
 
 abbrev pub invariant-loop-i : goal.invariant-loop-i

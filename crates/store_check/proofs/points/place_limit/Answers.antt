@@ -1,7 +1,4 @@
 -- Each return follows from the test that led to it.
-use Prim.Native.Nat.{◌-◌}
-use native.Mathlib.Nat.{div-le_self}
-use native.Mathlib.Omega.{arith}
 use borrow.Author.Tests.{lt-ltb, le-ltb}
 use Rattle.store_check.specs.Entries.{place_limit}
 use Rattle.store_check.proofs.points.place_limit.Goals as goal

@@ -1,5 +1,4 @@
 -- Each return follows from the tests that led to it.
-use borrow.Author.Rules.{rules}
 use Prim.Native.Nat.{◌*◌}
 use native.Mathlib.Omega.{arith}
 use mathlib.Core.Path.{sym, ◌∙◌}

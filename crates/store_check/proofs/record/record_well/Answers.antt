@@ -1,5 +1,4 @@
 -- The two parts, put together.
-use borrow.Author.Rules.{rules}
 use mathlib.Core.Path.{sym}
 use Rattle.store_check.specs.CheckLaws.{record_parts}
 use Rattle.store_check.proofs.record.record_well.Goals as goal

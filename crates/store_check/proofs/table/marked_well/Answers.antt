@@ -1,5 +1,4 @@
 -- Each way out is one of the laws of `TableLaws`.
-use borrow.Author.Rules.{rules}
 use native.Mathlib.Omega.{arith}
 use Rattle.store_laws.specs.BoundsLaws.{in_bounds, base_some}
 use mathlib.Core.Path.{sym, ◌∙◌}

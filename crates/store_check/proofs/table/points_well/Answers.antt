@@ -1,6 +1,4 @@
 -- Where the table is well-formed, the places decide.
-use borrow.Author.Rules.{rules}
-use native.Mathlib.Omega.{arith}
 use mathlib.Core.Bool.{Bool, ◌&&◌, false≢true}
 use mathlib.Core.Path.{sym, ◌∙◌, ap}
 use Rattle.store_definitions.specs.WellFormed.{places_distinct}

@@ -1,5 +1,4 @@
 -- The marks are a local array with no mark.
-use borrow.Author.Rules.{rules}
 use native.Mathlib.Omega.{arith}
 use Rattle.store_laws.specs.BoundsLaws.{in_bounds}
 use Rattle.interval_store_manager.specs.MarkLaws.{unmarked}

@@ -1,5 +1,4 @@
 -- The marks are a local array with no mark.
-use borrow.Author.Rules.{rules}
 use Rattle.interval_store_manager.specs.MarkLaws.{unmarked}
 use Rattle.store_check.proofs.table.well_in_64.Goals as goal
 

@@ -1,6 +1,5 @@
 -- Each table is filled by one call.
-use native.Mathlib.Omega.{arith}
-use Rattle.store_rows.specs.Openings.{points, points_opened_lem, start_floats, start_stack}
+use Rattle.store_rows.specs.Openings.{points, points_opened_lem}
 use Rattle.store_rows.proofs.clearing.open_points.Goals as goal
 
 pub returns : goal.returns

@@ -1,5 +1,4 @@
 -- The stack is what the manager's opening leaves.
-use borrow.Author.Rules.{rules}
 use Rattle.interval_store_manager.specs.Answers.{opened_means, opening}
 use Rattle.store_rows.specs.Openings.{stack_opened}
 use Rattle.store_rows.proofs.clearing.open_stack.Goals as goal

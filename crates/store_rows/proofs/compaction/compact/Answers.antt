@@ -1,7 +1,6 @@
 -- The check decides between the two laws of `Compacting`.
-use borrow.Author.Rules.{rules}
 use mathlib.Core.Bool.{true, false}
-use mathlib.Core.Path.{sym, refl}
+use mathlib.Core.Path.{sym}
 use Rattle.store_definitions.specs.Lent.{held}
 use Rattle.store_definitions.specs.Memory.{point_store}
 use Rattle.store_rows.specs.Checked.{checked_is}

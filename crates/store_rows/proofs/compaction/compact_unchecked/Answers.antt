@@ -1,5 +1,5 @@
 -- The needs are laws of `Compacting`.
-use Rattle.store_rows.specs.Compacting.{compactable, compacted_rows_lem}
+use Rattle.store_rows.specs.Compacting.{compacted_rows_lem}
 use Rattle.placement_rows.specs.Compactable.{layout}
 use Rattle.store_rows.proofs.compaction.compact_unchecked.Goals as goal
 

@@ -1,5 +1,4 @@
 -- The check decides between the two laws of `Copying`.
-use borrow.Author.Rules.{rules}
 use mathlib.Core.Bool.{true, false}
 use mathlib.Core.Path.{sym, ◌∙◌}
 use Rattle.store_definitions.specs.Lent.{held}

@@ -1,9 +1,7 @@
 -- Each way out is one of the laws of `Copying`.
-use borrow.Author.Rules.{rules}
-use native.Mathlib.Omega.{arith}
 use Rattle.terms.specs.Below.{positive}
-use lib.ListN.{length, get_or}
-use Rattle.store_rows.specs.Copying.{row_inside, past_table, not_counted, other_length, row_copied}
+use lib.ListN.{get_or}
+use Rattle.store_rows.specs.Copying.{past_table, not_counted, other_length, row_copied}
 use Rattle.store_rows.proofs.copying.copy_unchecked.Goals as goal
 
 pub returns-then-manager-at : goal.returns-then-manager-at

@@ -1,5 +1,4 @@
 -- One conjunction, as it is defined.
-use borrow.Author.Rules.{rules}
 use native.Mathlib.Omega.{arith}
 use Rattle.store_definitions.specs.Lent.{held}
 use Rattle.store_laws.specs.BoundsLaws.{in_bounds}

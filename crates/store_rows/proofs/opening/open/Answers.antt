@@ -1,6 +1,5 @@
 -- The decision, then the laws of `Openings`.
-use borrow.Author.Rules.{rules}
-use mathlib.Core.Path.{refl, sym, ◌∙◌, ap}
+use mathlib.Core.Path.{sym, ◌∙◌, ap}
 use Rattle.terms.specs.Refusals.{number}
 use Rattle.interval_store_manager.specs.Calls.{decision_means}
 use Rattle.labels.specs.Forms.{label_half}

@@ -1,8 +1,7 @@
 -- Each way out is one of the laws of `Openings`.
-use borrow.Author.Rules.{rules}
 use mathlib.Core.Path.{sym, ◌∙◌}
 use Rattle.store_definitions.specs.Lent.{held}
-use Rattle.store_rows.specs.Openings.{shape_refused, start_none, start_above, lent_short, all_lent, no_table}
+use Rattle.store_rows.specs.Openings.{start_none, start_above, lent_short, all_lent, no_table}
 use Rattle.store_rows.proofs.opening.opening_decision.Goals as goal
 
 pub returns-then-shape-lt1 : goal.returns-then-shape-lt1
