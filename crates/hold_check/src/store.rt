@@ -7,7 +7,6 @@ ghost use Rattle.store_definitions.specs.WellFormed.{well_formed, places_distinc
 ghost use Rattle.store_check.specs.Entries.{counts_live, PlacesBelow};
 ghost use Rattle.store_check.specs.Figures.{FiguresOf};
 ghost use Rattle.store_check.specs.PointsTest.{points_test, PointsReady};
-
 ghost use Rattle.hold_check.specs.Rising.{single_counts, ListKnown};
 ghost use Rattle.store_check.specs.Tables.{tables};
 

@@ -9,7 +9,6 @@ ghost use Rattle.store_definitions.specs.Lent.{held};
 ghost use Rattle.store_definitions.specs.Memory.{point_store};
 ghost use Rattle.store_definitions.specs.WellFormed.{well_formed};
 ghost use Rattle.store_check.specs.Tables.{tables};
-
 ghost use Rattle.store_adjust.specs.Pairs.{pairings};
 
 mod pair;

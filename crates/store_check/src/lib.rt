@@ -8,7 +8,6 @@ ghost use Rattle.store_definitions.specs.WellFormed.{well_formed};
 ghost use Rattle.store_check.specs.Figures.{FiguresOf};
 ghost use Rattle.store_check.specs.Tables.{tables};
 
-
 mod bounds;
 mod points;
 mod record;

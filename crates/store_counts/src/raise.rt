@@ -8,7 +8,6 @@ ghost use Rattle.store_definitions.specs.Memory.{point_store};
 ghost use Rattle.store_definitions.specs.WellFormed.{well_formed};
 ghost use Rattle.store_check.specs.Tables.{tables};
 
-
 use crate::decide::inc_test;
 use interval_store_manager::Decision;
 use labels::{LabelManagers, inc_label};

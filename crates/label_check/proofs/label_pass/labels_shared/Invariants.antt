@@ -12,7 +12,7 @@ use Rattle.label_check.specs.SlotPass.{every_next}
 use Rattle.label_check.proofs.label_pass.labels_shared.Given as goal
 
 abbrev pub invariant-loop-i : goal.invariant-loop-i
-invariant-loop-i l =     (l.i ≤ l.capacity)
+invariant-loop-i l = (l.i ≤ l.capacity)
     × ((l.ok ≡ every_below l.i (λ k. label_classed l.classes l.labels l.label_attributes l.label_count l.attributes k))
     × ((length l.sums ≡ 1024) × Summed l.i l.label_attributes l.label_count l.sums))
 

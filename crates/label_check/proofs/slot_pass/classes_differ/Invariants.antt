@@ -12,7 +12,7 @@ use Rattle.label_check.specs.SlotPass.{slots_live, Seen, byte_le, live_next, liv
 use Rattle.label_check.proofs.slot_pass.classes_differ.Given as goal
 
 abbrev pub invariant-loop-found : goal.invariant-loop-found
-invariant-loop-found l =     (l.s ≤ l.capacity)
+invariant-loop-found l = (l.s ≤ l.capacity)
     × ((length l.seen ≡ 256)
     × ((l.found ≡ slots_live l.s l.attribute_count)
     × ((not l.met ≡ every_below l.s (λ a. every_below a (λ b. differ l.attributes l.attribute_count a b))) × Seen l.s l.attributes l.attribute_count l.seen)))

@@ -11,7 +11,7 @@ use Rattle.labels.specs.TakeSlotLaws.{not_live, other_class, class_found, class_
 use Rattle.labels.proofs.take.class_slot.Given as goal
 
 abbrev pub invariant-loop-i : goal.invariant-loop-i
-invariant-loop-i l =     (l.i ≤ l.capacity) × ((k : ℕ) → k < l.i → holds_class l.attributes l.attribute_count l.class k ≡ false)
+invariant-loop-i l = (l.i ≤ l.capacity) × ((k : ℕ) → k < l.i → holds_class l.attributes l.attribute_count l.class k ≡ false)
 
 abbrev pub decreases-loop-i : goal.decreases-loop-i
 decreases-loop-i l = l.capacity - l.i

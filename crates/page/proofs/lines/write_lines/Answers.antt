@@ -31,11 +31,11 @@ loop-i-preserved c =
     let first = s.args.text.now in
     elim c.if-count-gt0.branch [
       | then-count-gt0 w ↦
-        let p = w.put_point in
-        rw (w.end-is, w.text-is)
-        (line_written n counts places first l.text l.end l.i l.invariant c.loop-i-test.true s.requires.1 p.new.text c.wide-count.result w.wide-place.result
-        w.if-count-gt0.true c.wide-count.ensures w.wide-place.ensures (omega (arith, s.requires.0.1, c.loop-i-test.true)) p.ensures p.auto.text)
+          let p = w.put_point in
+          rw (w.end-is, w.text-is)
+          (line_written n counts places first l.text l.end l.i l.invariant c.loop-i-test.true s.requires.1 p.new.text c.wide-count.result w.wide-place.result
+          w.if-count-gt0.true c.wide-count.ensures w.wide-place.ensures (omega (arith, s.requires.0.1, c.loop-i-test.true)) p.ensures p.auto.text)
       | else-count-gt0 w ↦
-        rw (w.end-is, w.text-is)
-        (line_skipped n counts places first l.text l.end l.i l.invariant c.loop-i-test.true s.requires.1 c.wide-count.result w.if-count-gt0.false c.wide-count.ensures)
+          rw (w.end-is, w.text-is)
+          (line_skipped n counts places first l.text l.end l.i l.invariant c.loop-i-test.true s.requires.1 c.wide-count.result w.if-count-gt0.false c.wide-count.ensures)
     ]

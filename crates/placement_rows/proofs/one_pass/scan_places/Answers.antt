@@ -32,11 +32,11 @@ loop-place-preserved c =
     let inv = at.loop-place.invariant in
     let inside = c.loop-place-test.true in
     elim c.if-index.branch [
-      then-index w ↦
-        let t = w.take_point-done in
-        (search rules, (scan_same w.store-is w.location-is w.done-is ∙ takes a.shape.dimensions a.shape.base a.shape.rotation a.store.now a.location.now a.index_at.now a.start_free_region start.requires at.loop-place.place at.loop-place.store at.loop-place.location at.loop-place.done inv.1.0 inside w.if-index.true t.new.store t.new.location t.result t.ensures.0, subst (Carried a.shape.base) (sym w.done-is) t.ensures.1))
-    | else-index w ↦
-        (search rules, (scan_same w.store-is w.location-is w.done-is ∙ passes a.shape.dimensions a.shape.base a.shape.rotation a.store.now a.location.now a.index_at.now a.start_free_region start.requires at.loop-place.place at.loop-place.store at.loop-place.location at.loop-place.done inv.1.0 inside w.if-index.false, subst (Carried a.shape.base) (sym w.done-is) inv.1.1))
+      | then-index w ↦
+          let t = w.take_point-done in
+          (search rules, (scan_same w.store-is w.location-is w.done-is ∙ takes a.shape.dimensions a.shape.base a.shape.rotation a.store.now a.location.now a.index_at.now a.start_free_region start.requires at.loop-place.place at.loop-place.store at.loop-place.location at.loop-place.done inv.1.0 inside w.if-index.true t.new.store t.new.location t.result t.ensures.0, subst (Carried a.shape.base) (sym w.done-is) t.ensures.1))
+      | else-index w ↦
+          (search rules, (scan_same w.store-is w.location-is w.done-is ∙ passes a.shape.dimensions a.shape.base a.shape.rotation a.store.now a.location.now a.index_at.now a.start_free_region start.requires at.loop-place.place at.loop-place.store at.loop-place.location at.loop-place.done inv.1.0 inside w.if-index.false, subst (Carried a.shape.base) (sym w.done-is) inv.1.1))
     ]
 
 pub returns : goal.returns
