@@ -1,10 +1,8 @@
--- The items of a sum as the caller's structs, and that the plain form takes the same items.
-use Rattle.std.specs.Prelude.{ℕ, List, [], ◌∷◌, ◌≡◌, refl}
-use Rattle.std.proofs.Common.{ap}
+-- The items of a sum as the caller's structs.
+use Rattle.std.specs.Prelude.{ℕ, List, [], ◌∷◌}
 use Rattle.store_definitions.specs.declared.Item.{Item}
-use Rattle.store_definitions.specs.Memory.{PointStore}
-use Rattle.store_definitions.specs.Sums.{Weighted, point_sum_spec}
-use Rattle.row_readings.specs.Items.{weighted, weightings}
+use Rattle.store_definitions.specs.Sums.{Weighted}
+use Rattle.row_readings.specs.Items.{weighted}
 
 abbrev pub weighting_of : Item → Weighted
 weighting_of x = weighted x.index.0 x.weight
@@ -17,12 +15,3 @@ weightings_of (x ∷ xs) = weighting_of x ∷ weightings_of xs
 unfoldable pub numbers_of : List Item → List (List ℕ)
 numbers_of [] = []
 numbers_of (x ∷ xs) = (x.index.0 ∷ x.weight ∷ []) ∷ numbers_of xs
-
-pub same_weightings : (xs : List Item) → weightings (numbers_of xs) ≡ weightings_of xs
-unfolding weightings weightings_of numbers_of
-same_weightings [] = refl
-same_weightings (x ∷ xs) = ap (λ (ws : List Weighted). weighting_of x ∷ ws) (same_weightings xs)
-
--- the sum over structs and the sum over plain numbers are one sum
-pub forms_agree : {E S : Type 0} (add : ℕ → List S → List E → List S) (zero_sum : S) (p : PointStore E) (xs : List Item) (out : List S) → point_sum_spec add zero_sum p (weightings (numbers_of xs)) out ≡ point_sum_spec add zero_sum p (weightings_of xs) out
-forms_agree add zero_sum p xs out = ap (λ (ws : List Weighted). point_sum_spec add zero_sum p ws out) (same_weightings xs)
