@@ -1,0 +1,13 @@
+-- The number is stored, a refusal stores none.
+use Rattle.point_store_c.specs.ExportedStore.{exported_reading}
+use borrow.Author.Rules.{rules}
+use Rattle.point_store_c.proofs.answers.number_out.Goals as goal
+
+pub returns-in-Refused : goal.returns-in-Refused
+unfolding exported_reading
+returns-in-Refused c =
+    rw (c.in-Refused.is, c.refusal_number.ensures)
+
+pub returns-in-Is : goal.returns-in-Is
+unfolding exported_reading
+returns-in-Is c = rw c.in-Is.is

@@ -1,0 +1,36 @@
+-- What the manager's change_capacity ensures, carried to the record and the return value.
+use mathlib.Core.List.{[]}
+use mathlib.Core.Path.{refl, sym, ◌∙◌, ap}
+use Rattle.interval_store_manager.specs.Answers.{done, refused, changed_means}
+use Rattle.interval_store_manager.specs.Calls.{change_spec}
+use Rattle.point_store_c.specs.ExportedLaws.{call_refused, call_done, accepted_long, change_refuses}
+use borrow.Author.Rules.{rules}
+use Rattle.point_store_c.proofs.manager.ps_manager_change_capacity.Goals as goal
+
+pub manager_out-requires : goal.manager_out-requires
+manager_out-requires c =
+    let a = c.args in
+    let i = c.manager_in in
+    let g = c.change_capacity-result in
+    accepted_long (λ m. change_spec m a.starts.now a.ends.now a.new_capacity)
+    a.words.now i.result g.result.manager g.new.starts g.new.ends (changed_means g.result.answer) done
+    (change_refuses a.starts.now a.ends.now a.new_capacity) i.ensures g.ensures
+    (ap changed_means c.in-Done.is) refl
+
+pub returns-in-Refused : goal.returns-in-Refused
+returns-in-Refused c =
+    let a = c.args in
+    let i = c.manager_in in
+    let g = c.change_capacity-result in
+    call_refused (λ m. change_spec m a.starts.now a.ends.now a.new_capacity)
+    a.words.now i.result g.result.manager g.new.starts g.new.ends (changed_means g.result.answer) i.ensures g.ensures [] c.refusal_number.result
+    (ap changed_means c.in-Refused.is ∙ ap refused (sym c.refusal_number.ensures))
+
+pub returns-in-Done : goal.returns-in-Done
+returns-in-Done c =
+    let a = c.args in
+    let i = c.manager_in in
+    let g = c.change_capacity-result in
+    rw c.manager_out.ensures
+    (call_done (λ m. change_spec m a.starts.now a.ends.now a.new_capacity)
+    a.words.now i.result g.result.manager g.new.starts g.new.ends (changed_means g.result.answer) i.ensures g.ensures [] (ap changed_means c.in-Done.is))

@@ -1,0 +1,26 @@
+-- What the manager's is_empty ensures, carried to the lent number and the return value.
+use mathlib.Core.List.{[], ◌∷◌}
+use mathlib.Core.Path.{sym, ◌∙◌, ap}
+use Rattle.interval_store_manager.specs.Answers.{refused, emptiness_means}
+use Rattle.interval_store_manager.specs.Calls.{is_empty_spec}
+use Rattle.point_store_c.specs.ExportedLaws.{reading_refused, reading_says}
+use borrow.Author.Rules.{rules}
+use Rattle.point_store_c.proofs.manager.ps_manager_is_empty.Goals as goal
+
+pub returns-in-Refused : goal.returns-in-Refused
+returns-in-Refused c =
+    let a = c.args in
+    let i = c.manager_in in
+    let g = c.is_empty-answer in
+    reading_refused (λ m. is_empty_spec m a.starts.now a.ends.now)
+    a.words.now i.result (emptiness_means g.result) i.ensures g.ensures (a.empty.now ∷ [])
+    c.refusal_number.result (ap emptiness_means c.in-Refused.is ∙ ap refused (sym c.refusal_number.ensures))
+
+pub returns-in-Empty : goal.returns-in-Empty
+returns-in-Empty c =
+    let a = c.args in
+    let i = c.manager_in in
+    let g = c.is_empty-answer in
+    reading_says (λ m. is_empty_spec m a.starts.now a.ends.now)
+    a.words.now i.result (emptiness_means g.result) i.ensures g.ensures (a.empty.now ∷ [])
+    c.in-Empty.b (ap emptiness_means c.in-Empty.is)

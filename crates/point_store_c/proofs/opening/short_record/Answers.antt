@@ -1,0 +1,13 @@
+-- The shape decides between 2 and 1.
+use mathlib.Core.Path.{◌∙◌}
+use Rattle.point_store_c.specs.ExportedStoreLaws.{short_allowed, short_refused}
+use borrow.Author.Rules.{rules}
+use Rattle.point_store_c.proofs.opening.short_record.Goals as goal
+
+pub returns-then-within-shape : goal.returns-then-within-shape
+returns-then-within-shape c =
+    c.refusal_number.ensures ∙ short_allowed c.args.shape c.bounds_hold-within.result c.bounds_hold-within.ensures c.if-within-shape.true
+
+pub returns : goal.returns
+returns c =
+    c.refusal_number-2.ensures ∙ short_refused c.args.shape c.bounds_hold-within.result c.bounds_hold-within.ensures c.if-within-shape.false
