@@ -114,7 +114,7 @@ pub extern "C" fn ps_dec(
     done_number(answer)
 }
 
-// Over the caller's own records. A function that holds them is walked by hand, so all else is in the functions that it calls.
+// Over the caller's own records. All else is in the functions that it calls.
 #[unsafe(no_mangle)]
 pub extern "C" fn ps_adjust(
     words: &mut [u64],

@@ -34,7 +34,7 @@ pub fn store_in(words: &[u64]) -> Store
     no_record()
 }
 
-// The same of a record that is lent mutably, as a walk by hand lends what it lends again.
+// The same of a record that is lent mutably, by a caller that lends it again.
 pub fn lent_store_in(words: &mut [u64]) -> Store
     ensures { (result ≡ store_in words.old) × (words.new ≡ words.old) }
 {

@@ -65,7 +65,7 @@ fn pair_step(done: DoneResult, pairs_before: usize) -> PairStep
     }
 }
 
-// The check before the first pair, as an adjust of no pair. A walk by hand lends all slices for one lifetime, and lends them mutably.
+// The check before the first pair, as an adjust of no pair. All slices are lent for one lifetime, and mutably.
 pub fn first_step<'a>(
     s: Store,
     store: &'a mut [u32],
