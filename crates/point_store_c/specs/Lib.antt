@@ -1,17 +1,10 @@
 pub mod Exported
 pub mod ExportedLaws
 pub mod ExportedHold
-pub mod ExportedHoldLaws
 pub mod ExportedPage
 pub mod ExportedProbes
-pub mod ExportedProbesLaws
 pub mod ExportedStore
-pub mod ExportedStoreLaws
-pub mod HoldRecordLaws
 pub mod HoldRecords
 pub mod Naming
-pub mod ProbesRecordLaws
 pub mod ProbesRecords
-pub mod RecordLaws
-pub mod RecordedLaws
 pub mod Records

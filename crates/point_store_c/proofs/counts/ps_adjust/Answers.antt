@@ -4,7 +4,7 @@ use Rattle.std.proofs.Common.{ap, ◌∙◌}
 use Rattle.store_definitions.specs.Answers.{adjusted_means}
 use Rattle.store_definitions.specs.Counting.{adjust_spec}
 use Rattle.store_adjust_pairs.specs.Records.{pairings_of}
-use Rattle.point_store_c.specs.ExportedStoreLaws.{call_exported}
+use Rattle.point_store_c.proofs.ExportedStoreLaws.{call_exported}
 use Rattle.point_store_c.specs.Records.{recorded}
 use Rattle.point_store_c.proofs.counts.ps_adjust.Goals as goal
 

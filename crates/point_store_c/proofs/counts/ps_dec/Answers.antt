@@ -2,7 +2,7 @@
 use mathlib.Core.List.{[]}
 use Rattle.store_definitions.specs.Answers.{done_means}
 use Rattle.store_definitions.specs.Counting.{dec_spec}
-use Rattle.point_store_c.specs.ExportedStoreLaws.{memory, call_exported}
+use Rattle.point_store_c.proofs.ExportedStoreLaws.{memory, call_exported}
 use Rattle.point_store_c.proofs.counts.ps_dec.Goals as goal
 
 pub returns : goal.returns

@@ -3,7 +3,7 @@ use mathlib.Core.List.{[]}
 use Rattle.store_definitions.specs.Answers.{done_means}
 use Rattle.store_definitions.specs.Counting.{inc_spec}
 use Rattle.store_definitions.specs.Memory.{point_store}
-use Rattle.point_store_c.specs.ExportedStoreLaws.{memory, call_kept, inc_keeps}
+use Rattle.point_store_c.proofs.ExportedStoreLaws.{memory, call_kept, inc_keeps}
 use Rattle.point_store_c.proofs.counts.ps_inc.Goals as goal
 
 pub returns : goal.returns

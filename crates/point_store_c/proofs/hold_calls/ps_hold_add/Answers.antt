@@ -3,8 +3,8 @@ use mathlib.Core.List.{[], ◌∷◌}
 use Rattle.store_definitions.specs.Answers.{added_means}
 use Rattle.float_bits.specs.Words.{words_equal}
 use Rattle.hold_definitions.specs.Adding.{hold_add_spec}
-use Rattle.point_store_c.specs.ExportedStoreLaws.{memory}
-use Rattle.point_store_c.specs.ExportedHoldLaws.{hold_memory, hold_call_exported}
+use Rattle.point_store_c.proofs.ExportedStoreLaws.{memory}
+use Rattle.point_store_c.proofs.ExportedHoldLaws.{hold_memory, hold_call_exported}
 use Rattle.point_store_c.proofs.hold_calls.ps_hold_add.Goals as goal
 
 pub returns : goal.returns

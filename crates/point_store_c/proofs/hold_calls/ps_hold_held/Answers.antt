@@ -1,8 +1,8 @@
 -- What the hold's reading ensures, carried to the return value.
 use Rattle.store_definitions.specs.Answers.{done_means}
 use Rattle.hold_definitions.specs.Readings.{held_spec}
-use Rattle.point_store_c.specs.ExportedStoreLaws.{memory}
-use Rattle.point_store_c.specs.ExportedHoldLaws.{hold_memory, hold_output_exported}
+use Rattle.point_store_c.proofs.ExportedStoreLaws.{memory}
+use Rattle.point_store_c.proofs.ExportedHoldLaws.{hold_memory, hold_output_exported}
 use Rattle.point_store_c.proofs.hold_calls.ps_hold_held.Goals as goal
 
 pub returns : goal.returns

@@ -1,8 +1,8 @@
 -- A record too short is refused before the opening; else the opening decides, and its record is written.
 use Rattle.store_definitions.specs.Answers.{done_means}
 use Rattle.point_store_c.specs.ExportedStore.{shape_in}
-use Rattle.point_store_c.specs.ExportedStoreLaws.{memory}
-use Rattle.point_store_c.specs.ExportedHoldLaws.{hold_memory, hold_open_short, hold_open_long}
+use Rattle.point_store_c.proofs.ExportedStoreLaws.{memory}
+use Rattle.point_store_c.proofs.ExportedHoldLaws.{hold_memory, hold_open_short, hold_open_long}
 use Rattle.point_store_c.proofs.hold_calls.ps_hold_open.Goals as goal
 
 pub returns-then-words-lt-HOLD_WORDS : goal.returns-then-words-lt-HOLD_WORDS

@@ -1,7 +1,7 @@
 -- What the store's attribute_vec ensures, carried to the return value.
 use Rattle.store_definitions.specs.Answers.{done_means}
 use Rattle.store_definitions.specs.LabelReadings.{attribute_vec_spec}
-use Rattle.point_store_c.specs.ExportedStoreLaws.{memory, output_exported}
+use Rattle.point_store_c.proofs.ExportedStoreLaws.{memory, output_exported}
 use Rattle.point_store_c.proofs.label_readings.ps_attribute_vec.Goals as goal
 
 pub returns : goal.returns

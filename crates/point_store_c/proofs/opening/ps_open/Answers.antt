@@ -1,7 +1,7 @@
 -- A record too short is refused before the opening; else the opening decides, and its record is written.
 use Rattle.store_definitions.specs.Answers.{done_means}
 use Rattle.point_store_c.specs.ExportedStore.{shape_in}
-use Rattle.point_store_c.specs.ExportedStoreLaws.{memory, open_short, open_long}
+use Rattle.point_store_c.proofs.ExportedStoreLaws.{memory, open_short, open_long}
 use Rattle.point_store_c.proofs.opening.ps_open.Goals as goal
 
 pub returns-then-words-lt-RECORD_WORDS : goal.returns-then-words-lt-RECORD_WORDS

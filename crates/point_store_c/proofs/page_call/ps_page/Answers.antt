@@ -3,7 +3,7 @@ use mathlib.Core.List.{[], ◌∷◌}
 use Rattle.page.specs.Page.{page_spec}
 use Rattle.store_definitions.specs.Answers.{number_means}
 use Rattle.point_store_c.specs.ExportedPage.{page_exported}
-use Rattle.point_store_c.specs.ExportedStoreLaws.{memory}
+use Rattle.point_store_c.proofs.ExportedStoreLaws.{memory}
 use Rattle.point_store_c.proofs.page_call.ps_page.Goals as goal
 
 pub returns : goal.returns

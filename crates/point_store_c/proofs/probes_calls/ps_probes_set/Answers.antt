@@ -3,8 +3,8 @@ use mathlib.Core.List.{[], ◌∷◌}
 use Rattle.store_definitions.specs.Answers.{added_means}
 use Rattle.float_bits.specs.Words.{words_equal}
 use Rattle.probes_definitions.specs.Setting.{set_kinds_spec}
-use Rattle.point_store_c.specs.ExportedStoreLaws.{memory}
-use Rattle.point_store_c.specs.ExportedProbesLaws.{probes_call_exported}
+use Rattle.point_store_c.proofs.ExportedStoreLaws.{memory}
+use Rattle.point_store_c.proofs.ExportedProbesLaws.{probes_call_exported}
 use Rattle.point_store_c.proofs.probes_calls.ps_probes_set.Goals as goal
 
 pub returns : goal.returns

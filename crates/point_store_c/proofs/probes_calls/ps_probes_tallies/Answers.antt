@@ -1,8 +1,8 @@
 -- What the product's reading ensures, carried to the return value.
 use Rattle.store_definitions.specs.Answers.{done_means}
 use Rattle.probes_definitions.specs.Tallies.{tallies_spec}
-use Rattle.point_store_c.specs.ExportedStoreLaws.{memory}
-use Rattle.point_store_c.specs.ExportedProbesLaws.{probes_output_exported}
+use Rattle.point_store_c.proofs.ExportedStoreLaws.{memory}
+use Rattle.point_store_c.proofs.ExportedProbesLaws.{probes_output_exported}
 use Rattle.point_store_c.proofs.probes_calls.ps_probes_tallies.Goals as goal
 
 pub returns : goal.returns

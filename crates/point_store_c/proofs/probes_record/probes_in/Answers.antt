@@ -1,6 +1,6 @@
 -- A legal record is read by its store's words and its tallies, another as none.
 use mathlib.Core.Path.{sym, ◌∙◌}
-use Rattle.point_store_c.specs.ProbesRecordLaws.{legal_read, illegal_read}
+use Rattle.point_store_c.proofs.ProbesRecordLaws.{legal_read, illegal_read}
 use Rattle.point_store_c.proofs.probes_record.probes_in.Goals as goal
 
 pub returns-then-probes_legal : goal.returns-then-probes_legal

@@ -1,6 +1,6 @@
 -- A short record is illegal, a longer one by its tallies.
 use mathlib.Core.Path.{◌∙◌}
-use Rattle.point_store_c.specs.ProbesRecordLaws.{short_illegal, long_legal}
+use Rattle.point_store_c.proofs.ProbesRecordLaws.{short_illegal, long_legal}
 use Rattle.point_store_c.proofs.probes_record.probes_legal.Goals as goal
 
 pub returns-then-words-lt-PROBES_WORDS : goal.returns-then-words-lt-PROBES_WORDS

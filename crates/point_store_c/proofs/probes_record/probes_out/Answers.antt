@@ -1,7 +1,7 @@
 -- A legal record gets the store's words and then the tallies, another is left.
 use native.Mathlib.Omega.{arith}
 use mathlib.Core.Path.{refl, sym, ◌∙◌}
-use Rattle.point_store_c.specs.ProbesRecordLaws.{legal, legal_recorded, illegal_recorded}
+use Rattle.point_store_c.proofs.ProbesRecordLaws.{legal, legal_recorded, illegal_recorded}
 use Rattle.point_store_c.proofs.probes_record.probes_out.Goals as goal
 
 pub tallies_write-requires : goal.tallies_write-requires

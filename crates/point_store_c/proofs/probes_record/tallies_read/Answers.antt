@@ -1,7 +1,7 @@
 -- Word by word: each fits.
 use native.Mathlib.Omega.{arith}
 use mathlib.Core.Path.{refl}
-use Rattle.point_store_c.specs.ProbesRecordLaws.{legal}
+use Rattle.point_store_c.proofs.ProbesRecordLaws.{legal}
 use Rattle.point_store_c.proofs.probes_record.tallies_read.Goals as goal
 
 pub bounds-words-39 : goal.bounds-words-39

@@ -1,7 +1,7 @@
 -- What the store's missing_indices ensures, carried to the return value.
 use Rattle.store_definitions.specs.Answers.{done_means}
 use Rattle.store_definitions.specs.IndexLists.{missing_indices_spec}
-use Rattle.point_store_c.specs.ExportedStoreLaws.{memory, output_exported}
+use Rattle.point_store_c.proofs.ExportedStoreLaws.{memory, output_exported}
 use Rattle.point_store_c.proofs.readings.ps_missing_indices.Goals as goal
 
 pub returns : goal.returns

@@ -1,7 +1,7 @@
 -- What the store's next_indices ensures, carried to the return value.
 use Rattle.store_definitions.specs.Answers.{done_means}
 use Rattle.store_definitions.specs.IndexLists.{next_indices_spec}
-use Rattle.point_store_c.specs.ExportedStoreLaws.{memory, output_exported}
+use Rattle.point_store_c.proofs.ExportedStoreLaws.{memory, output_exported}
 use Rattle.point_store_c.proofs.readings.ps_next_indices.Goals as goal
 
 pub returns : goal.returns

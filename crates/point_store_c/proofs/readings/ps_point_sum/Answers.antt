@@ -4,7 +4,7 @@ use Rattle.float_bits.specs.Words.{float_of, plus_zero}
 use Rattle.store_definitions.specs.Answers.{done_means}
 use Rattle.store_definitions.specs.Sums.{point_sum_spec}
 use Rattle.store_sum_items.specs.Records.{weightings_of}
-use Rattle.point_store_c.specs.ExportedStoreLaws.{output_exported}
+use Rattle.point_store_c.proofs.ExportedStoreLaws.{output_exported}
 use Rattle.point_store_c.proofs.readings.ps_point_sum.Goals as goal
 
 pub returns : goal.returns

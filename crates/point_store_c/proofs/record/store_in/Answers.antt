@@ -1,6 +1,6 @@
 -- A legal record is read, an illegal one is none.
 use mathlib.Core.Path.{sym, ◌∙◌}
-use Rattle.point_store_c.specs.RecordLaws.{legal, legal_read, illegal_read}
+use Rattle.point_store_c.proofs.RecordLaws.{legal, legal_read, illegal_read}
 use Rattle.point_store_c.proofs.record.store_in.Goals as goal
 
 pub classes_in-classes-requires : goal.classes_in-classes-requires

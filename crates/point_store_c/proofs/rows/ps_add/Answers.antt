@@ -3,7 +3,7 @@ use mathlib.Core.List.{[], ◌∷◌}
 use Rattle.store_definitions.specs.Answers.{added_means}
 use Rattle.float_bits.specs.Words.{words_equal}
 use Rattle.store_definitions.specs.Adding.{add_spec}
-use Rattle.point_store_c.specs.ExportedStoreLaws.{memory, call_exported}
+use Rattle.point_store_c.proofs.ExportedStoreLaws.{memory, call_exported}
 use Rattle.point_store_c.proofs.rows.ps_add.Goals as goal
 
 pub returns : goal.returns

@@ -2,7 +2,7 @@
 use mathlib.Core.List.{[]}
 use Rattle.store_definitions.specs.Answers.{done_means}
 use Rattle.store_definitions.specs.Rows.{compact_spec}
-use Rattle.point_store_c.specs.ExportedStoreLaws.{memory, call_exported}
+use Rattle.point_store_c.proofs.ExportedStoreLaws.{memory, call_exported}
 use Rattle.point_store_c.proofs.rows.ps_compact.Goals as goal
 
 pub returns : goal.returns

@@ -1,7 +1,7 @@
 -- What the store's copy ensures, carried to the return value.
 use Rattle.store_definitions.specs.Answers.{done_means}
 use Rattle.store_definitions.specs.Rows.{copy_spec}
-use Rattle.point_store_c.specs.ExportedStoreLaws.{memory, output_exported}
+use Rattle.point_store_c.proofs.ExportedStoreLaws.{memory, output_exported}
 use Rattle.point_store_c.proofs.rows.ps_copy.Goals as goal
 
 pub returns : goal.returns

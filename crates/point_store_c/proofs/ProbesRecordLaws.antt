@@ -16,7 +16,7 @@ use Rattle.probes_definitions.specs.Opening.{no_probes}
 use Rattle.probes_definitions.specs.Memory.{point_probes}
 use Rattle.probes_definitions.specs.WellFormed.{probes_well_formed}
 use Rattle.point_store_c.specs.Records.{store_words, store_out, store_in, recorded}
-use Rattle.point_store_c.specs.RecordLaws.{Sized, length_words, tail_out_lem, tail_word, written_in, record_kept}
+use Rattle.point_store_c.proofs.RecordLaws.{Sized, length_words, tail_out_lem, tail_word, written_in, record_kept}
 use Rattle.point_store_c.specs.ProbesRecords.{tally_words, probes_out, tallies_out, legal_tallies, legal_probes, tallies_read, probes_in, probes_recorded}
 
 -- ---- what the code's tests show

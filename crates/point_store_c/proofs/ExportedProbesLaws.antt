@@ -16,7 +16,7 @@ use Rattle.probes_definitions.specs.Memory.{PointProbes, point_probes}
 use Rattle.probes_definitions.specs.WellFormed.{eight_probes}
 use Rattle.probes_definitions.specs.Opening.{probes_open_spec}
 use Rattle.point_store_c.specs.ProbesRecords.{probes_in, probes_recorded}
-use Rattle.point_store_c.specs.ProbesRecordLaws.{probes_record_kept}
+use Rattle.point_store_c.proofs.ProbesRecordLaws.{probes_record_kept}
 use Rattle.point_store_c.specs.ExportedStore.{Read, read, exported_reading, written, exported_output, returned, exported}
 use Rattle.point_store_c.specs.ExportedProbes.{probes_exported_call, probes_opened_words, probes_opened_as, short_probes, probes_exported_opening}
 

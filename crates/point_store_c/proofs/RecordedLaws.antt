@@ -31,10 +31,10 @@ use Rattle.probes_definitions.specs.Readings.{of_kinds, filled}
 use Rattle.probes_definitions.specs.WellFormed.{probes_well_formed}
 use Rattle.probes_definitions.specs.Setting.{set_decided, kinds_decided, then_set, set_added, set_checked, set_kinds_spec}
 use Rattle.point_store_c.specs.HoldRecords.{hold_in}
-use Rattle.point_store_c.specs.HoldRecordLaws.{long_read}
+use Rattle.point_store_c.proofs.HoldRecordLaws.{long_read}
 use Rattle.point_store_c.specs.ProbesRecords.{legal_probes, probes_in}
 use Rattle.point_store_c.specs.Records.{store_in, recorded, recorded_whole}
-use Rattle.point_store_c.specs.RecordLaws.{recorded_whole_lem}
+use Rattle.point_store_c.proofs.RecordLaws.{recorded_whole_lem}
 
 module _ {E : Type 0} where
   -- the classes and the capacity are as they were

@@ -13,7 +13,7 @@ use Rattle.hold_definitions.specs.Opening.{no_hold}
 use Rattle.hold_definitions.specs.Memory.{HoldMemory, point_hold}
 use Rattle.hold_definitions.specs.WellFormed.{hold_well_formed}
 use Rattle.point_store_c.specs.Records.{store_words, store_out, legal_record, store_in, recorded}
-use Rattle.point_store_c.specs.RecordLaws.{Sized, length_words, tail_out_lem, tail_word, written_in, record_kept, illegal_ill_formed}
+use Rattle.point_store_c.proofs.RecordLaws.{Sized, length_words, tail_out_lem, tail_word, written_in, record_kept, illegal_ill_formed}
 use Rattle.point_store_c.specs.HoldRecords.{hold_words, hold_out, tail_out, hold_in, hold_recorded}
 
 -- the first 41 words are the hold's, and a longer record keeps its rest

@@ -14,7 +14,7 @@ use Rattle.hold_definitions.specs.Memory.{HoldMemory, PointHold, point_hold}
 use Rattle.hold_definitions.specs.Opening.{hold_open_spec}
 use Rattle.hold_definitions.specs.WellFormed.{width_allowed}
 use Rattle.point_store_c.specs.HoldRecords.{hold_in, hold_recorded}
-use Rattle.point_store_c.specs.HoldRecordLaws.{hold_record_kept}
+use Rattle.point_store_c.proofs.HoldRecordLaws.{hold_record_kept}
 use Rattle.point_store_c.specs.ExportedStore.{Read, read, exported_reading, written, exported_output, returned}
 use Rattle.point_store_c.specs.ExportedHold.{hold_exported, hold_exported_call, hold_opened_words, hold_opened_as, short_hold, hold_exported_opening}
 
