@@ -13,7 +13,7 @@ LIBRARY = target/staticlib/libpoint_store_c.a
 CRATES := $(shell awk -F: '!/^\#/ {split($$1, said, " "); uses[said[1]] = $$2} \
 	function reach(c, n, i, u) {if (c in seen || !(c in uses)) return; seen[c] = 1; n = split(uses[c], u, " "); \
 	for (i = 1; i <= n; i++) reach(u[i])} END {reach("point_store_c"); for (c in seen) print c}' crates.txt | sort)
-SOURCES := crates.txt $(shell find $(CRATES:%=crates/%) -name '*.rt' -o -name '*.antt' | sort)
+SOURCES := crates.txt $(shell find $(CRATES:%=crates/%) '(' -name '*.rt' -o -name '*.antt' ')' -not -path '*/out/*' | sort)
 
 # each C program with what it has to print beside it; those in tests/c are C++ too
 PROGRAMS = $(wildcard examples/c/*.c) $(wildcard tests/c/*.c)

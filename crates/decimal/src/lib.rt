@@ -1,5 +1,5 @@
 // Decimal numbers right-justified in fields of any width, and lines of such fields: writers into a part of a lent text, readers
-// from one. The rule of a field stands in specs/Field.antt, its laws for every width in specs/FieldLaws.antt.
+// from one. The rule of a field stands in specs/Field.antt, its laws for every width in proofs/FieldLaws.antt.
 #![tactic(auto)]
 
 mod columns;

@@ -1,6 +1,5 @@
 -- What a program does that opens a hold and hands each add the record and the memory as the last one left them. Each constructor is
--- one call of the code: its premise is the equation that the call's contract ensures, in the contract's own words. Adds stand with
--- the last one first.
+-- one call of the code: its premise is the equation that the call's contract ensures. Adds stand with the last one first.
 use Rattle.std.specs.Prelude.{ℕ, List, [], ◌∷◌, ◌≡◌}
 use Rattle.float_bits.specs.Words.{words_equal}
 use Rattle.store_definitions.specs.declared.Shape.{Shape}

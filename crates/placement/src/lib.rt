@@ -1,5 +1,5 @@
 // Rows in lent elements: which row is laid, where and how it is laid, how it is copied out, and what compaction leaves.
-// The crate holds definitions and laws, for elements of any type, in specs/; code over them stands in crates above.
+// The crate holds definitions, in specs/, and laws, there and in proofs/, for elements of any type; code over them stands in crates above.
 #![tactic(auto)]
 
 // How a row was laid: all of it written, or joined to the one before it. The number is its place.

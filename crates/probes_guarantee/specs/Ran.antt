@@ -1,6 +1,5 @@
 -- What a program does that opens a product and hands each set the record and the memory as the last one left them. Each constructor
--- is one call of the code: its premise is the equation that the call's contract ensures, in the contract's own words. Sets stand
--- with the last one first.
+-- is one call of the code: its premise is the equation that the call's contract ensures. Sets stand with the last one first.
 use Rattle.std.specs.Prelude.{ℕ, List, [], ◌∷◌, ◌≡◌}
 use Rattle.interval_store_manager.specs.Calls.{go, refuse}
 use Rattle.float_bits.specs.Words.{words_equal}

@@ -1,6 +1,6 @@
 -- What a program does that opens a store and hands each call the record and the memory as the last one left them. Each constructor
--- is one call of the code: its premise is the equation that the call's contract ensures, in the contract's own words, of the
--- result and of the lent slices when the call began and when it ended. Calls stand with the last one first.
+-- is one call of the code: its premise is the equation that the call's contract ensures, of the result and of the lent slices
+-- as they were when the call began and when it ended. Calls stand with the last one first.
 use Rattle.std.specs.Prelude.{ℕ, List, [], ◌∷◌, ◌≡◌}
 use denote.Triple.Both.{Both}
 use Rattle.terms.specs.declared.PointIndex.{PointIndex}
