@@ -1,6 +1,6 @@
 -- The check decides.
 use Prim.Native.Nat.{ℕ}
-use mathlib.Core.Path.{refl, sym, ◌∙◌}
+use mathlib.Core.Path.{sym, ◌∙◌}
 use Rattle.hold_definitions.specs.Lent.{hold_held}
 use Rattle.hold_definitions.specs.Memory.{HoldMemory, point_hold}
 use Rattle.float_bits.specs.Words.{words_equal}

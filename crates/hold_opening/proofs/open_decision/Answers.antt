@@ -1,5 +1,4 @@
 -- The first refusal that applies.
-use borrow.Author.Rules.{rules}
 use mathlib.Core.Path.{sym, ap, ◌∙◌}
 use Rattle.terms.specs.Refusals.{number}
 use Rattle.interval_store_manager.specs.Calls.{decision_means}

@@ -1,7 +1,6 @@
 -- The decision, and then the store's opening.
 use Prim.Native.Nat.{ℕ}
 use mathlib.Core.Path.{sym, ap, ◌∙◌}
-use borrow.Author.Rules.{rules}
 use Rattle.terms.specs.Refusals.{number}
 use Rattle.interval_store_manager.specs.Calls.{decision_means}
 use Rattle.store_definitions.specs.Memory.{Memory}

@@ -1,5 +1,4 @@
 -- Each way out is one of the laws of `Openings`.
-use borrow.Author.Rules.{rules}
 use mathlib.Core.Path.{sym, ◌∙◌}
 use Rattle.hold_opening.specs.Openings.{shape_bad, start_none, start_above, shape_good}
 use Rattle.hold_opening.proofs.shape_decision.Goals as goal

@@ -6,7 +6,6 @@ use Rattle.store_definitions.specs.Lent.{held}
 use Rattle.probes_definitions.specs.Memory.{point_probes}
 use mathlib.Core.List.{List}
 use mathlib.Core.Path.{ap₂, ◌∙◌}
-use borrow.Author.Rules.{rules}
 use Rattle.probes_definitions.specs.Setting.{set_kinds_spec}
 use Rattle.probes.specs.Sets.{floats_set}
 use Rattle.probes.proofs.set.Goals as goal

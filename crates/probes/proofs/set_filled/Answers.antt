@@ -5,7 +5,6 @@ use Rattle.store_definitions.specs.Memory.{Memory}
 use Rattle.store_definitions.specs.Lent.{held}
 use Rattle.probes_definitions.specs.Memory.{point_probes}
 use mathlib.Core.Path.{sym, ◌∙◌}
-use borrow.Author.Rules.{rules}
 use Rattle.store_definitions.specs.Memory.{point_store}
 use Rattle.store_definitions.specs.Answers.{added_means, outcome}
 use Rattle.probes_definitions.proofs.Sound.{probes_sound}

@@ -4,9 +4,7 @@ use Rattle.float_bits.specs.Words.{words_equal}
 use Rattle.store_definitions.specs.Memory.{Memory}
 use Rattle.store_definitions.specs.Lent.{held}
 use Rattle.probes_definitions.specs.Memory.{point_probes}
-use mathlib.Core.Path.{refl, sym, ap, ◌∙◌}
-use borrow.Author.Rules.{rules}
-use borrow.Author.Tests.{not-true, not-false}
+use mathlib.Core.Path.{sym, ap, ◌∙◌}
 use Rattle.terms.specs.Refusals.{number}
 use Rattle.interval_store_manager.specs.Calls.{decision_means}
 use Rattle.probes.specs.Sets.{words_ill, words_refused, words_go, eight_each}

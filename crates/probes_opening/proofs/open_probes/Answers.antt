@@ -1,7 +1,6 @@
 -- The product's test, and then the store's opening.
 use Prim.Native.Nat.{ℕ}
 use mathlib.Core.Path.{sym, ◌∙◌}
-use borrow.Author.Tests.{not-true, not-false}
 use Rattle.store_definitions.specs.Memory.{Memory}
 use Rattle.store_definitions.specs.Lent.{held}
 use Rattle.probes_opening.specs.Openings.{open_other, open_eight}

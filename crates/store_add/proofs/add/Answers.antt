@@ -5,9 +5,7 @@ use Rattle.store_definitions.specs.Lent.{held}
 use Rattle.store_definitions.specs.Memory.{Memory, point_store}
 use Rattle.store_check.specs.CheckLaws.{well_formed_lengths}
 use Rattle.store_check.specs.Figures.{figures_filled}
-use Rattle.store_add.specs.Answering.{changed_outcome}
 use Rattle.store_add.proofs.ActLaws.{add_ill}
-use borrow.Author.Rules.{rules}
 use Rattle.store_add.proofs.add.Goals as goal
 
 pub add_unchecked-changes-requires : goal.add_unchecked-changes-requires

@@ -1,6 +1,5 @@
 -- By what the add gave, and by how many are held.
 use Prim.Native.Nat.{ℕ}
-use native.Mathlib.Omega.{arith}
 use Rattle.store_definitions.specs.Memory.{Memory, point_store}
 use Rattle.hold_definitions.specs.Lent.{hold_held}
 use Rattle.hold_definitions.specs.Memory.{HoldMemory, point_hold}

@@ -1,11 +1,9 @@
 -- The invariant: the first k entries are moved down.
-use Prim.Native.Nat.{◌+◌, ◌-◌, ◌≤◌}
+use Prim.Native.Nat.{◌+◌, ◌-◌}
 use native.Mathlib.Omega.{arith}
-use mathlib.Core.List.{◌++◌}
 use mathlib.Core.Path.{◌≡◌, refl, ◌∙◌}
-use lib.ListN.{length, get_or, take, drop, length-set}
-use borrow.Author.Rules.{rules}
-use Rattle.hold.specs.Moves.{slid_none, slid_more, slid_done}
+use lib.ListN.{get_or, length-set}
+use Rattle.hold.specs.Moves.{slid_more, slid_done}
 use Rattle.hold.proofs.list.slide.Goals as goal
 
 pub loop-k-preserved : goal.loop-k-preserved

@@ -1,11 +1,8 @@
 -- The invariant: the first k entries are moved down.
-use Prim.Native.Nat.{◌+◌, ◌-◌, ◌≤◌}
-use native.Mathlib.Omega.{arith}
+use Prim.Native.Nat.{◌-◌, ◌≤◌}
 use mathlib.Core.List.{◌++◌}
-use mathlib.Core.Path.{◌≡◌, refl, ◌∙◌}
-use lib.ListN.{length, get_or, take, drop, length-set}
-use borrow.Author.Rules.{rules}
-use Rattle.hold.specs.Moves.{slid_none, slid_more, slid_done}
+use mathlib.Core.Path.{◌≡◌}
+use lib.ListN.{length, take, drop}
 use Rattle.hold.proofs.list.slide.Given as goal
 
 abbrev pub invariant-loop-k : goal.invariant-loop-k

@@ -1,6 +1,6 @@
 -- The decision carried out: the laws of each part, put together.
 use Prim.Native.Nat.{ℕ}
-use mathlib.Core.Path.{refl, sym, ◌∙◌, ap}
+use mathlib.Core.Path.{sym, ◌∙◌, ap}
 use native.Mathlib.Omega.{arith}
 use borrow.Author.Tests.{not-true, not-false}
 use Rattle.float_bits.specs.Words.{words_equal}
@@ -16,8 +16,7 @@ use Rattle.store_add.specs.Answering.{changed}
 use Rattle.store_add.specs.Deciding.{decision_means}
 use Rattle.store_add.specs.Pieces.{rows_at, row_from, index_given}
 use Rattle.store_add.proofs.RoomLaws.{room_rows}
-use Rattle.store_add.proofs.ActLaws.{waits_ready, keeps_ready, label_ready, lay_ready, index_ready, keeps_full, put, acted_refuse, acted_wait, acted_keep}
-use borrow.Author.Rules.{rules}
+use Rattle.store_add.proofs.ActLaws.{waits_ready, keeps_ready, label_ready, lay_ready, index_ready, keeps_full, put, acted_wait, acted_keep}
 use Rattle.store_add.proofs.act.act.Goals as goal
 
 pub shift_window-requires : goal.shift_window-requires

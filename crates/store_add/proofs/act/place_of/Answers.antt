@@ -1,6 +1,5 @@
 -- Each case holds its place.
 use Rattle.placement.specs.Laying.{place_of}
-use borrow.Author.Rules.{rules}
 use Rattle.store_add.proofs.act.place_of.Goals as goal
 
 pub returns-in-Whole : goal.returns-in-Whole

@@ -3,7 +3,6 @@ use mathlib.Core.Path.{sym, ◌∙◌, ap}
 use borrow.Author.Tests.{eq-eqb, ne_eqb}
 use Rattle.interval_store_manager.specs.Calls.{decision_means}
 use Rattle.store_add.specs.Deciding.{add_asked}
-use borrow.Author.Rules.{rules}
 use Rattle.store_add.proofs.decide.add_decision.Goals as goal
 
 pub returns-then-length-point_length : goal.returns-then-length-point_length

@@ -2,7 +2,6 @@
 use mathlib.Core.Path.{sym, ◌∙◌, ap}
 use Rattle.interval_store_manager.specs.Calls.{decision_means}
 use Rattle.store_add.specs.Deciding.{table_asked, keep_asked}
-use borrow.Author.Rules.{rules}
 use Rattle.store_add.proofs.decide.keep_decision.Goals as goal
 
 pub returns-then-still_waits : goal.returns-then-still_waits

@@ -1,6 +1,5 @@
 -- Each return follows from the tests that led to it.
 use Rattle.store_definitions.specs.Adding.{point_length}
-use borrow.Author.Rules.{rules}
 use Rattle.store_add.proofs.decide.point_length.Goals as goal
 
 pub returns-then-s : goal.returns-then-s

@@ -1,6 +1,5 @@
 -- Each return follows from the tests that led to it.
 use Rattle.store_definitions.specs.Adding.{waits}
-use borrow.Author.Rules.{rules}
 use Rattle.store_add.proofs.decide.still_waits.Goals as goal
 
 pub returns-then-s : goal.returns-then-s

@@ -1,7 +1,6 @@
 -- Each return follows from the tests that led to it.
 use mathlib.Core.Path.{sym, ◌∙◌}
 use Rattle.store_add.specs.Deciding.{table_asked}
-use borrow.Author.Rules.{rules}
 use Rattle.store_add.proofs.decide.table_decision.Goals as goal
 
 pub returns-then-table_full : goal.returns-then-table_full

@@ -1,7 +1,6 @@
 -- Each return follows from the tests that led to it.
 use borrow.Author.Tests.{eq-eqb, ne_eqb}
 use Rattle.store_definitions.specs.Adding.{table_full}
-use borrow.Author.Rules.{rules}
 use Rattle.store_add.proofs.decide.table_full.Goals as goal
 
 pub returns-then-manager-eq0 : goal.returns-then-manager-eq0

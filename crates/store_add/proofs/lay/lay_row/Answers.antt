@@ -4,7 +4,6 @@ use lib.ListN.{length}
 use Rattle.placement.specs.Laying.{laid_elements}
 use Rattle.store_definitions.specs.Parts.{base_of}
 use Rattle.store_add.proofs.RoomLaws.{row_sized, row_after, row_length, lay_asks}
-use borrow.Author.Rules.{rules}
 use Rattle.store_add.proofs.lay.lay_row.Goals as goal
 
 pub row-laid-requires : goal.row-laid-requires

@@ -2,7 +2,6 @@
 use native.Mathlib.Omega.{arith}
 use Rattle.store_add.specs.Pieces.{window_moved}
 use Rattle.store_add.proofs.RoomLaws.{base_most, sized_on, moved_on}
-use borrow.Author.Rules.{rules}
 use Rattle.store_add.proofs.lay.shift_window.Goals as goal
 
 pub move_window-requires : goal.move_window-requires

@@ -3,7 +3,6 @@ use native.Mathlib.Omega.{arith}
 use Rattle.store_definitions.specs.Parts.{base_of}
 use Rattle.store_add.specs.Pieces.{rows_at, row_from}
 use Rattle.store_add.proofs.RoomLaws.{base_most, room_rows, row_lent, written_most, joins_are, fits_are}
-use borrow.Author.Rules.{rules}
 use Rattle.store_add.proofs.room.find_room.Goals as goal
 
 pub row_joins-joined-requires : goal.row_joins-joined-requires

@@ -1,8 +1,7 @@
 -- As it is, compacted, or grown.
 use native.Mathlib.Omega.{arith}
 use Prim.Native.Nat.{◌*◌}
-use Rattle.store_add.proofs.RoomLaws.{room_is, compactable, compact_is, compact_sound, room_compacted, room_grown, grown_fits}
-use borrow.Author.Rules.{rules}
+use Rattle.store_add.proofs.RoomLaws.{room_is, compact_is, compact_sound, room_compacted, room_grown, grown_fits}
 use Rattle.store_add.proofs.room.make_room.Goals as goal
 
 pub returns-then-free-dimensions : goal.returns-then-free-dimensions

@@ -3,7 +3,6 @@ use native.Mathlib.Omega.{arith}
 use Rattle.labels.specs.Counted.{counted}
 use Rattle.store_add.proofs.RoomLaws.{grown_fits}
 use Rattle.store_add.proofs.TakeLaws.{change_asks, grown_is, grown_not}
-use borrow.Author.Rules.{rules}
 use Rattle.store_add.proofs.take.grow_points.Goals as goal
 
 pub grow_table-requires : goal.grow_table-requires

@@ -2,7 +2,6 @@
 use Rattle.labels.specs.Forms.{label_half}
 use Rattle.store_add.specs.Pieces.{managers_of}
 use Rattle.store_add.proofs.TakeLaws.{label_on, label_off}
-use borrow.Author.Rules.{rules}
 use Rattle.store_add.proofs.take.label_for.Goals as goal
 
 pub returns-then-s : goal.returns-then-s

@@ -1,9 +1,6 @@
 -- Grown if it has to be, and then taken.
-use native.Mathlib.Omega.{arith}
-use mathlib.Core.Path.{ap}
-use Rattle.labels.specs.Counted.{Counted, counted}
-use Rattle.store_add.proofs.TakeLaws.{take_ready, index_is}
-use borrow.Author.Rules.{rules}
+use Rattle.labels.specs.Counted.{counted}
+use Rattle.store_add.proofs.TakeLaws.{index_is}
 use Rattle.store_add.proofs.take.take_index.Goals as goal
 
 pub returns : goal.returns

@@ -3,7 +3,6 @@ use native.Mathlib.Omega.{arith}
 use Rattle.labels.specs.Counted.{counted}
 use Rattle.labels.specs.CountedLaws.{capacity_most}
 use Rattle.store_add.proofs.TakeLaws.{index_below, placed_is}
-use borrow.Author.Rules.{rules}
 use Rattle.store_add.proofs.take.take_next.Goals as goal
 
 pub offset_bounds-reference_count-index : goal.offset_bounds-reference_count-index

@@ -1,5 +1,4 @@
 -- Each way out is one of the laws of `TestLaws`.
-use borrow.Author.Rules.{rules}
 use Rattle.store_counts.specs.TestLaws.{dec_labelled, dec_dead}
 use Rattle.store_counts.proofs.decide.dec_test.Goals as goal
 

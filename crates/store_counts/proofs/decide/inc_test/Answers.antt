@@ -1,5 +1,4 @@
 -- Each way out is one of the laws of `TestLaws`.
-use borrow.Author.Rules.{rules}
 use Rattle.store_counts.specs.TestLaws.{inc_counted, inc_label_refused, inc_dead}
 use Rattle.store_counts.proofs.decide.inc_test.Goals as goal
 

@@ -1,5 +1,4 @@
 -- Below the table length the count decides.
-use borrow.Author.Rules.{rules}
 use Rattle.store_counts.specs.TestLaws.{in_use_below, in_use_beyond}
 use Rattle.store_counts.proofs.decide.point_in_use.Goals as goal
 

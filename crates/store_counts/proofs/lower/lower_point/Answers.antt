@@ -1,8 +1,6 @@
 -- The two returns are the two forms of one count less.
-use borrow.Author.Rules.{rules}
-use lib.ListN.{length-set}
 use Rattle.labels.specs.Counted.{counted}
-use Rattle.labels.specs.CountedLaws.{used_not_free, lowered_released, lowered_kept}
+use Rattle.labels.specs.CountedLaws.{lowered_released, lowered_kept}
 use Rattle.store_counts.specs.CallLaws.{emptied_last, emptied_kept}
 use Rattle.store_counts.proofs.lower.lower_point.Goals as goal
 

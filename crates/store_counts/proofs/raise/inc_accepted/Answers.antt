@@ -2,7 +2,7 @@
 use native.Mathlib.Omega.{arith}
 use borrow.Author.Rules.{scaled_Fits}
 use Prim.Native.Nat.{◌<◌}
-use lib.ListN.{get_or, length-set}
+use lib.ListN.{get_or}
 use Rattle.store_definitions.specs.Memory.{point_store}
 use Rattle.store_check.specs.Tables.{tables}
 use Rattle.store_counts.specs.CallLaws.{inc_within, inc_room, inc_label_ready, inc_on, inc_off}
