@@ -2,7 +2,7 @@
 use Prim.Native.Nat.{ℕ, zero, suc, ◌+◌, ◌*◌, ◌%◌, ◌≤◌, ◌<◌}
 use Rattle.std.proofs.Math.Nat.{le_refl}
 use Rattle.std.proofs.Common.{arith, ap, ap₂}
-use Rattle.std.specs.Prelude.{Bool, not, ◌||◌, ◌≡◌, length, ltb, eqb}
+use Rattle.std.specs.Prelude.{Bool, ◌≡◌, length, ltb}
 use Rattle.std.proofs.Math.Bool.{true, false, cond}
 use mathlib.Core.List.{List, [], ◌∷◌, map}
 use Rattle.std.proofs.Math.Path.{refl}

@@ -1,5 +1,5 @@
 -- The preview of a window, of a store that is known to be well-formed.
-use Rattle.std.specs.Prelude.{ℕ, ◌+◌, ◌*◌, ◌%◌, ◌≤◌, Bool, true, false, cond, not, ◌&&◌, ◌≡◌, take, drop, ltb, eqb}
+use Rattle.std.specs.Prelude.{ℕ, ◌+◌, ◌*◌, ◌%◌, ◌≤◌, true, false, cond, ◌≡◌, take, drop, ltb, eqb}
 use Rattle.std.proofs.Common.{le_of_eq, le_refl, arith, sym, ◌∙◌}
 use Rattle.std.proofs.Math.Bool.{and-false}
 use mathlib.Core.List.{List, ◌++◌, append-nil}

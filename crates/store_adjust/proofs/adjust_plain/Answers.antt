@@ -1,5 +1,5 @@
 -- The check, then the call on the tables: it does the same whatever the elements are.
-use mathlib.Core.Path.{refl, sym, ◌∙◌, ap}
+use mathlib.Core.Path.{sym, ◌∙◌, ap}
 use Rattle.store_definitions.specs.Answers.{Outcome}
 use Rattle.store_definitions.specs.Lent.{held}
 use Rattle.store_definitions.specs.Memory.{point_store}

@@ -1,15 +1,9 @@
 -- A turn is one pair: the rest of the list comes to what the whole comes to.
 use Prim.Native.Nat.{◌-◌}
-use native.Mathlib.Nat.{lt_of_le_of_lt}
-use native.Mathlib.Numerals.{add-one-le}
-use mathlib.Core.Path.{◌∙◌, ap}
 use lib.ListN.{length}
-use borrow.Author.Rules.{rules, scaled_Fits}
-use borrow.Author.Count.{falls}
-use Rattle.store_definitions.specs.Answers.{done_means}
 use Rattle.store_definitions.specs.Memory.{point_store}
 use Rattle.store_adjust.specs.Pairs.{listed}
-use Rattle.store_adjust.specs.Run.{State, start, stop, next, finish}
+use Rattle.store_adjust.specs.Run.{State}
 use Rattle.store_adjust.proofs.adjust_unchecked.Given as goal
 
 abbrev pub invariant-loop-i : goal.invariant-loop-i

@@ -2,7 +2,6 @@
 use mathlib.Core.List.{[], ◌∷◌}
 use native.Mathlib.Omega.{arith}
 use Rattle.decimal.proofs.LinesLaws.{length_line}
-use borrow.Author.Rules.{rules}
 use Rattle.page.proofs.lines.put_point.Goals as goal
 
 pub put_line-requires : goal.put_line-requires

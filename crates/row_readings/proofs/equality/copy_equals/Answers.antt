@@ -1,10 +1,7 @@
 -- The row at the place, turned by its turn.
-use native.Mathlib.Omega.{arith}
-use borrow.Author.Rules.{rules}
 use mathlib.Core.List.{List}
 use mathlib.Core.Path.{ap, ◌∙◌}
 use Prim.Native.Nat.{ℕ}
-use lib.ListN.{length-take, length-drop}
 use Rattle.terms.specs.Rows.{all_equal}
 use Rattle.float_bits.specs.Words.{words_equal}
 use Rattle.row_readings.specs.EqualityLaws.{copied_part}

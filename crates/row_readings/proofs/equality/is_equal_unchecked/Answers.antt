@@ -1,10 +1,9 @@
 -- Each way out is one of the laws of `EqualityLaws`.
 use native.Mathlib.Omega.{arith}
-use borrow.Author.Rules.{rules, scaled_Fits}
+use borrow.Author.Rules.{scaled_Fits}
 use mathlib.Core.List.{[]}
 use mathlib.Core.Path.{sym, ◌∙◌}
 use lib.ListN.{length}
-use borrow.Author.Tests.{not-true, not-false}
 use Rattle.float_bits.specs.Words.{words_equal}
 use Rattle.store_definitions.specs.Memory.{point_store}
 use Rattle.store_counts.specs.Tables.{counts_alone}

@@ -1,7 +1,4 @@
 -- The two parts make up the turned row.
-use native.Mathlib.Omega.{arith}
-use borrow.Author.Rules.{rules}
-use lib.ListN.{length-take, length-drop}
 use Rattle.float_bits.specs.Words.{words_equal}
 use Rattle.row_readings.specs.EqualityLaws.{turned_equal}
 use Rattle.row_readings.proofs.equality.turned_equals.Goals as goal

@@ -1,10 +1,8 @@
 -- The loop's invariant: the first i entries are written.
-use Prim.Native.Nat.{ℕ, ◌+◌, ◌-◌, ◌≤◌}
+use Prim.Native.Nat.{◌+◌}
 use native.Mathlib.Omega.{arith}
-use mathlib.Core.List.{[], map}
-use mathlib.Core.Path.{◌≡◌, refl, sym, ap, ◌∙◌}
-use lib.ListN.{length, take, length-set}
-use lib.Seq.{take_all}
+use mathlib.Core.Path.{refl}
+use lib.ListN.{length-set}
 use borrow.Author.Rules.{rules}
 use Rattle.store_definitions.specs.IndexLists.{up_to}
 use Rattle.row_readings.proofs.ListTurns.{count_turn}

@@ -1,13 +1,9 @@
 -- The loop's invariant: the first i entries are written.
-use Prim.Native.Nat.{ℕ, ◌+◌, ◌-◌, ◌≤◌}
-use native.Mathlib.Omega.{arith}
+use Prim.Native.Nat.{◌+◌, ◌-◌, ◌≤◌}
 use mathlib.Core.List.{[], map}
-use mathlib.Core.Path.{◌≡◌, refl, sym, ap, ◌∙◌}
-use lib.ListN.{length, take, length-set}
-use lib.Seq.{take_all}
-use borrow.Author.Rules.{rules}
+use mathlib.Core.Path.{◌≡◌}
+use lib.ListN.{length, take}
 use Rattle.store_definitions.specs.IndexLists.{up_to}
-use Rattle.row_readings.proofs.ListTurns.{count_turn}
 use Rattle.row_readings.proofs.index_list.count_from.Given as goal
 
 abbrev pub invariant-loop-i : goal.invariant-loop-i

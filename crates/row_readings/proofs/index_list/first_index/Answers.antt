@@ -1,9 +1,4 @@
 -- Each way out is one of the three ways to stand.
-use Prim.Native.Nat.{◌+◌}
-use native.Mathlib.Omega.{arith}
-use borrow.Author.Rules.{rules}
-use Rattle.store_definitions.specs.Parts.{base_of}
-use Rattle.row_readings.specs.Shingled.{base_within, product_fits}
 use Rattle.row_readings.specs.IndexReadings.{first_turned, first_last, first_own}
 use Rattle.row_readings.proofs.index_list.first_index.Goals as goal
 

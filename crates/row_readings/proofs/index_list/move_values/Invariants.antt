@@ -1,12 +1,8 @@
 -- The loop's invariant: the first i values are written.
 use Prim.Native.Nat.{◌+◌, ◌-◌, ◌≤◌}
-use native.Mathlib.Omega.{arith}
 use mathlib.Core.List.{map}
-use mathlib.Core.Path.{◌≡◌, refl, sym, ap, ◌∙◌}
-use lib.ListN.{length, take, length-set}
-use lib.Seq.{take_all}
-use borrow.Author.Rules.{rules}
-use Rattle.row_readings.proofs.ListTurns.{value_turn}
+use mathlib.Core.Path.{◌≡◌}
+use lib.ListN.{length, take}
 use Rattle.row_readings.proofs.index_list.move_values.Given as goal
 
 abbrev pub invariant-loop-i : goal.invariant-loop-i

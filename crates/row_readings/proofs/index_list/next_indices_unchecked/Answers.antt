@@ -2,7 +2,6 @@
 use Prim.Native.Nat.{ℕ, ◌+◌}
 use mathlib.Core.List.{[], map}
 use mathlib.Core.Path.{sym, ap, ◌∙◌}
-use borrow.Author.Rules.{rules}
 use Rattle.store_definitions.specs.IndexLists.{up_to}
 use Rattle.store_definitions.specs.Parts.{base_of}
 use Rattle.row_readings.specs.IndexReadings.{up_to_count, next_below, other_count, far_ahead, list_written}

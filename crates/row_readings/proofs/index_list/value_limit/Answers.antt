@@ -1,5 +1,4 @@
 -- Base or dimensions, as the flag says.
-use borrow.Author.Rules.{rules}
 use Rattle.store_definitions.specs.IndexLists.{value_limit}
 use Rattle.row_readings.proofs.index_list.value_limit.Goals as goal
 

@@ -1,10 +1,10 @@
 -- The loop's invariant: all values are below the limit where those passed are, and those that are left.
-use Prim.Native.Nat.{◌+◌, ◌-◌, ◌≤◌}
+use Prim.Native.Nat.{◌+◌}
 use native.Mathlib.Omega.{arith}
 use mathlib.Core.Bool.{Bool, ◌&&◌, and_assoc, and-true}
-use mathlib.Core.Path.{◌≡◌, sym, ap, ◌∙◌}
+use mathlib.Core.Path.{sym, ap, ◌∙◌}
 use lib.Dec.{ltb}
-use lib.ListN.{length, drop, get_or}
+use lib.ListN.{drop, get_or}
 use borrow.Author.Rules.{rules}
 use Rattle.store_definitions.specs.IndexLists.{values_below}
 use Rattle.row_readings.proofs.ListTurns.{below_turn, below_end}

@@ -1,13 +1,9 @@
 -- The loop's invariant: all values are below the limit where those passed are, and those that are left.
-use Prim.Native.Nat.{◌+◌, ◌-◌, ◌≤◌}
-use native.Mathlib.Omega.{arith}
-use mathlib.Core.Bool.{Bool, ◌&&◌, and_assoc, and-true}
-use mathlib.Core.Path.{◌≡◌, sym, ap, ◌∙◌}
-use lib.Dec.{ltb}
-use lib.ListN.{length, drop, get_or}
-use borrow.Author.Rules.{rules}
+use Prim.Native.Nat.{◌-◌, ◌≤◌}
+use mathlib.Core.Bool.{◌&&◌}
+use mathlib.Core.Path.{◌≡◌}
+use lib.ListN.{length, drop}
 use Rattle.store_definitions.specs.IndexLists.{values_below}
-use Rattle.row_readings.proofs.ListTurns.{below_turn, below_end}
 use Rattle.row_readings.proofs.index_list.values_below.Given as goal
 
 abbrev pub invariant-loop-i : goal.invariant-loop-i

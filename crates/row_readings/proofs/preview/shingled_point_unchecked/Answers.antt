@@ -2,7 +2,6 @@
 use mathlib.Core.Path.{sym, subst}
 use Prim.Native.Nat.{ℕ}
 use lib.ListN.{length}
-use borrow.Author.Rules.{rules}
 use Rattle.placement.specs.Places.{Shaped}
 use Rattle.store_definitions.specs.Preview.{previews}
 use Rattle.row_readings.specs.Previews.{previews_base, other_output, no_window, window_shown, other_point, point_shown}

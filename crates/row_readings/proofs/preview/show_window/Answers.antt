@@ -1,9 +1,7 @@
 -- The window is written, and then the point over it, or the window is moved.
 use native.Mathlib.Omega.{arith}
-use mathlib.Core.Path.{sym, ◌∙◌}
+use mathlib.Core.Path.{◌∙◌}
 use lib.ListN.{length}
-use lib.Seq.{length-take-le}
-use borrow.Author.Rules.{rules}
 use Rattle.row_readings.specs.Shingled.{base_within, turn_room, product_fits}
 use Rattle.row_readings.specs.Previews.{shown_over, shown_moved}
 use Rattle.row_readings.proofs.preview.show_window.Goals as goal

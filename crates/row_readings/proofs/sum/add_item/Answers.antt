@@ -1,10 +1,7 @@
 -- The row is read where it stands.
-use native.Mathlib.Omega.{arith}
-use borrow.Author.Rules.{rules}
 use mathlib.Core.List.{List}
 use mathlib.Core.Path.{ap, ◌∙◌}
 use Prim.Native.Nat.{ℕ}
-use lib.ListN.{length-take, length-drop}
 use Rattle.float_bits.specs.Rows.{add_scaled}
 use Rattle.row_readings.specs.SumLaws.{row_read}
 use Rattle.row_readings.proofs.sum.add_item.Goals as goal

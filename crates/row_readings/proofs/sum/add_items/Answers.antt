@@ -1,13 +1,10 @@
 -- A turn is one item: the rest of the list is added to the sums so far.
-use borrow.Author.Rules.{rules, scaled_Fits}
-use Prim.Native.Nat.{◌+◌, ◌-◌, ◌≤◌, zero-le}
-use native.Mathlib.Nat.{lt_of_le_of_lt}
+use Prim.Native.Nat.{◌+◌}
 use native.Mathlib.Numerals.{add-one-le}
 use mathlib.Core.List.{List, []}
-use mathlib.Core.Path.{◌≡◌, refl, sym, ap, ◌∙◌}
+use mathlib.Core.Path.{sym, ap, ◌∙◌}
 use lib.Ieee.{Float}
-use lib.ListN.{length, drop}
-use borrow.Author.Count.{falls}
+use lib.ListN.{drop}
 use Rattle.float_bits.specs.Rows.{add_scaled}
 use Rattle.store_definitions.specs.Memory.{point_store, rows_alone}
 use Rattle.store_definitions.specs.Sums.{summed}

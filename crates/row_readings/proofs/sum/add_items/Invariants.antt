@@ -1,18 +1,12 @@
 -- A turn is one item: the rest of the list is added to the sums so far.
-use borrow.Author.Rules.{rules, scaled_Fits}
-use Prim.Native.Nat.{◌+◌, ◌-◌, ◌≤◌, zero-le}
-use native.Mathlib.Nat.{lt_of_le_of_lt}
-use native.Mathlib.Numerals.{add-one-le}
-use mathlib.Core.List.{List, []}
-use mathlib.Core.Path.{◌≡◌, refl, sym, ap, ◌∙◌}
-use lib.Ieee.{Float}
+use Prim.Native.Nat.{◌-◌, ◌≤◌}
+use mathlib.Core.List.{[]}
+use mathlib.Core.Path.{◌≡◌}
 use lib.ListN.{length, drop}
-use borrow.Author.Count.{falls}
 use Rattle.float_bits.specs.Rows.{add_scaled}
 use Rattle.store_definitions.specs.Memory.{point_store, rows_alone}
 use Rattle.store_definitions.specs.Sums.{summed}
 use Rattle.row_readings.specs.Items.{weightings}
-use Rattle.row_readings.specs.SumLaws.{next_added, none_added}
 use Rattle.row_readings.proofs.sum.add_items.Given as goal
 
 abbrev pub invariant-loop-i : goal.invariant-loop-i

@@ -1,13 +1,11 @@
 -- The invariant: the floats passed are 0.0, every other is as it was.
 use native.Mathlib.Omega.{arith}
-use borrow.Author.Rules.{rules, scaled_Fits}
-use Prim.Native.Nat.{◌≤◌, ◌-◌}
-use mathlib.Core.List.{List, ◌++◌}
-use mathlib.Core.Path.{◌≡◌, refl, ◌∙◌, ap}
-use lib.ListN.{length, replicate, drop, set}
+use mathlib.Core.List.{List}
+use mathlib.Core.Path.{◌∙◌, ap}
+use lib.ListN.{length, set}
 use lib.Ieee.{Float}
 use Rattle.float_bits.specs.Words.{float_of, plus_zero}
-use Rattle.labels.specs.ReadingLaws.{zeros_length, zeros_more, zeros_all}
+use Rattle.labels.specs.ReadingLaws.{zeros_length, zeros_more}
 use Rattle.row_readings.proofs.sum.clear.Goals as goal
 
 pub loop-i-preserved : goal.loop-i-preserved

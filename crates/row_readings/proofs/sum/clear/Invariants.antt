@@ -1,13 +1,9 @@
 -- The invariant: the floats passed are 0.0, every other is as it was.
-use native.Mathlib.Omega.{arith}
-use borrow.Author.Rules.{rules, scaled_Fits}
 use Prim.Native.Nat.{◌≤◌, ◌-◌}
-use mathlib.Core.List.{List, ◌++◌}
-use mathlib.Core.Path.{◌≡◌, refl, ◌∙◌, ap}
-use lib.ListN.{length, replicate, drop, set}
-use lib.Ieee.{Float}
+use mathlib.Core.List.{◌++◌}
+use mathlib.Core.Path.{◌≡◌}
+use lib.ListN.{length, replicate, drop}
 use Rattle.float_bits.specs.Words.{float_of, plus_zero}
-use Rattle.labels.specs.ReadingLaws.{zeros_length, zeros_more, zeros_all}
 use Rattle.row_readings.proofs.sum.clear.Given as goal
 
 abbrev pub invariant-loop-i : goal.invariant-loop-i

@@ -1,7 +1,5 @@
 -- Each way out is one of the laws of `SumLaws`.
-use borrow.Author.Rules.{rules}
 use mathlib.Core.Path.{sym, ◌∙◌}
-use borrow.Author.Tests.{not-true, not-false}
 use mathlib.Core.List.{[]}
 use Rattle.store_definitions.specs.Memory.{point_store}
 use Rattle.store_counts.specs.Tables.{counts_alone}

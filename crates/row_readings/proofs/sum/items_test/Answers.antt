@@ -1,17 +1,10 @@
 -- A turn is one item: the rest of the list is decided as the whole is.
-use borrow.Author.Rules.{rules, scaled_Fits}
-use Prim.Native.Nat.{◌-◌, ◌≤◌, zero-le}
-use native.Mathlib.Nat.{lt_of_le_of_lt}
 use native.Mathlib.Numerals.{add-one-le}
-use mathlib.Core.Path.{◌≡◌, refl, sym, ap, ◌∙◌}
-use lib.ListN.{length, drop}
-use borrow.Author.Count.{falls}
+use mathlib.Core.Path.{sym, ap, ◌∙◌}
 use Rattle.interval_store_manager.specs.Calls.{decision_means}
 use mathlib.Core.List.{[]}
 use Rattle.store_definitions.specs.Memory.{point_store}
 use Rattle.store_counts.specs.Tables.{counts_alone}
-use Rattle.store_definitions.specs.Sums.{items_decided}
-use Rattle.row_readings.specs.Items.{weightings}
 use Rattle.row_readings.specs.SumLaws.{refused_here, goes_here, none_decided}
 use Rattle.row_readings.proofs.sum.items_test.Goals as goal
 

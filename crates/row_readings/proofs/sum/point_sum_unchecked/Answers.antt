@@ -1,5 +1,4 @@
 -- Each way out is one of the laws of `SumLaws`.
-use borrow.Author.Rules.{rules}
 use mathlib.Core.List.{List, []}
 use mathlib.Core.Path.{sym, ap, ◌∙◌}
 use lib.Ieee.{Float}

@@ -1,6 +1,4 @@
 -- The decision, carried out.
-use borrow.Author.Rules.{rules}
-use mathlib.Core.Path.{refl}
 use Rattle.store_definitions.specs.Memory.{point_store}
 use Rattle.store_check.specs.Tables.{tables}
 use Rattle.store_adjust.specs.Pairs.{pair_of}

@@ -1,5 +1,4 @@
 -- The inc, and on what it leaves the dec.
-use mathlib.Core.Path.{refl, ◌∙◌}
 use Rattle.store_definitions.specs.Memory.{point_store}
 use Rattle.store_check.specs.Tables.{tables}
 use Rattle.store_adjust.specs.Pairs.{pair_of}

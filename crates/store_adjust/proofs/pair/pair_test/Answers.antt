@@ -1,5 +1,4 @@
 -- Each way out is one of the laws of `PairLaws`.
-use borrow.Author.Rules.{rules}
 use Rattle.store_definitions.specs.Memory.{point_store}
 use Rattle.store_counts.specs.Tables.{counts_alone}
 use Rattle.store_adjust.specs.Pairs.{pair_of}

@@ -1,7 +1,6 @@
 -- The check decides between the two laws of `IndexReadings`.
 use mathlib.Core.Bool.{true, false}
 use mathlib.Core.Path.{sym, ◌∙◌}
-use borrow.Author.Rules.{rules}
 use Rattle.store_definitions.specs.Lent.{held}
 use Rattle.store_definitions.specs.Memory.{point_store}
 use Rattle.row_readings.specs.Shingled.{shingled}

@@ -1,5 +1,4 @@
 -- The check decides between two laws of `LabelLaws`.
-use borrow.Author.Rules.{rules}
 use mathlib.Core.Bool.{true, false}
 use mathlib.Core.Path.{ap, sym, ◌∙◌}
 use Rattle.labels.specs.Readings.{vector_read_means}

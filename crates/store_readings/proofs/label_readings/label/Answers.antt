@@ -1,5 +1,4 @@
 -- The check decides between two laws of `LabelLaws`.
-use borrow.Author.Rules.{rules}
 use mathlib.Core.Bool.{true, false}
 use mathlib.Core.Path.{sym, ◌∙◌}
 use Rattle.labels.specs.Readings.{label_read_means}

@@ -1,5 +1,4 @@
 -- The check decides between the two laws of `EqualityLaws`.
-use borrow.Author.Rules.{rules}
 use mathlib.Core.Bool.{true, false}
 use mathlib.Core.Path.{sym, ◌∙◌}
 use Rattle.float_bits.specs.Words.{words_equal}
