@@ -16,7 +16,7 @@ use Rattle.store_definitions.specs.Decisions.{and_then, form_decided, carried_ou
 use Rattle.store_definitions.specs.Memory.{Memory, PointStore, point_store}
 use Rattle.store_definitions.specs.Opening.{open_spec}
 use Rattle.store_definitions.specs.Parts.{point_table, label_half, with_points, with_labels}
-use Rattle.point_store_c.specs.Records.{store_out, store_in, recorded}
+use Rattle.point_store_c.specs.Records.{store_in, recorded}
 use Rattle.point_store_c.proofs.RecordLaws.{record_kept}
 use Rattle.point_store_c.specs.ExportedStore.{exported, exported_call, Read, read, exported_reading, written, exported_output, returned, opened_words, opened_as, short_record, exported_opening}
 

@@ -1,6 +1,6 @@
 -- A hold comes back from its record, a record from its hold, and an illegal record holds no hold.
-use Rattle.std.specs.Prelude.{ℕ, ◌+◌, ◌≤◌, ◌<◌, Bool, true, false, List, [], ◌∷◌, ◌++◌, ◌≡◌, refl, leb, length, get_or, drop}
-use Rattle.std.proofs.Common.{arith, append_assoc, sym, ap, ◌∙◌, le-leb}
+use Rattle.std.specs.Prelude.{ℕ, ◌≤◌, ◌<◌, Bool, true, false, List, [], ◌∷◌, ◌++◌, ◌≡◌, refl, leb, length, get_or, drop}
+use Rattle.std.proofs.Common.{arith, append_assoc, ap, ◌∙◌, le-leb}
 use Rattle.std.proofs.Math.Decide.{dec_lt}
 use Rattle.std.proofs.Math.ListN.{length-append}
 use Rattle.std.proofs.lemmas.List.{set-get_or}

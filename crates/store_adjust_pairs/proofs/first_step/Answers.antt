@@ -1,5 +1,5 @@
 -- The check decides, and nothing is written.
-use mathlib.Core.Path.{refl, ◌∙◌}
+use mathlib.Core.Path.{◌∙◌}
 use Rattle.store_definitions.specs.Lent.{held}
 use Rattle.store_check.specs.CheckLaws.{well_formed_lengths}
 use Rattle.store_adjust_pairs.specs.StepLaws.{first_comes}

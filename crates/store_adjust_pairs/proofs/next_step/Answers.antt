@@ -1,5 +1,5 @@
 -- One pair, whatever the elements are.
-use mathlib.Core.Path.{refl, ◌∙◌}
+use mathlib.Core.Path.{◌∙◌}
 use Rattle.store_definitions.specs.Lent.{held}
 use Rattle.store_check.specs.CheckLaws.{well_formed_lengths}
 use Rattle.store_adjust.specs.Pairs.{pair_of}

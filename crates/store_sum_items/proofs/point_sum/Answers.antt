@@ -1,11 +1,9 @@
 -- What a turn makes of where the loop stands is said in specs/Run.antt.
-use Rattle.std.specs.Prelude.{◌≡◌, length}
 use Rattle.std.proofs.Common.{sym, subst, ◌∙◌}
 use Rattle.float_bits.specs.Rows.{add_scaled}
 use Rattle.float_bits.specs.Words.{float_of, plus_zero}
 use Rattle.store_definitions.specs.Answers.{done_means}
-use Rattle.store_sum_items.specs.Steps.{SumState}
-use Rattle.store_sum_items.specs.Run.{Standing, begins, asks, went_on, nearer, ended}
+use Rattle.store_sum_items.specs.Run.{Standing, begins, asks, went_on}
 use Rattle.store_sum_items.proofs.point_sum.Goals as goal
 
 pub loop-step-init : goal.loop-step-init

@@ -1,6 +1,5 @@
 -- A kept add stores all six numbers, a waiting one the first, a refused one none.
 use Rattle.point_store_c.specs.ExportedStore.{exported_reading}
-use borrow.Author.Rules.{rules}
 use Rattle.point_store_c.proofs.answers.added_out.Goals as goal
 
 pub returns-in-Refused : goal.returns-in-Refused

@@ -1,6 +1,5 @@
 -- A refusal stores the pairs before it.
 use Rattle.point_store_c.specs.ExportedStore.{exported_reading}
-use borrow.Author.Rules.{rules}
 use Rattle.point_store_c.proofs.answers.adjusted_out.Goals as goal
 
 pub returns-in-Done : goal.returns-in-Done

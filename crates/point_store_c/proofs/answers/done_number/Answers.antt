@@ -1,6 +1,5 @@
 -- Done is 0, a refusal its number.
 use Rattle.point_store_c.specs.ExportedStore.{exported_reading}
-use borrow.Author.Rules.{rules}
 use Rattle.point_store_c.proofs.answers.done_number.Goals as goal
 
 pub returns-in-Done : goal.returns-in-Done

@@ -1,7 +1,6 @@
 -- Equality is stored as 1 or 0, a refusal stores none.
 use Rattle.point_store_c.specs.ExportedStore.{exported_reading}
 use Rattle.point_store_c.specs.ExportedLaws.{cast_one}
-use borrow.Author.Rules.{rules}
 use Rattle.point_store_c.proofs.answers.equality_out.Goals as goal
 
 pub returns-in-Refused : goal.returns-in-Refused

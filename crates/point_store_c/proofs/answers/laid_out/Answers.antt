@@ -1,7 +1,6 @@
 -- The case and its place.
 use mathlib.Core.Path.{refl}
 use Rattle.placement.specs.Laying.{place_of}
-use borrow.Author.Rules.{rules}
 use Rattle.point_store_c.proofs.answers.laid_out.Goals as goal
 
 pub returns-in-Whole : goal.returns-in-Whole

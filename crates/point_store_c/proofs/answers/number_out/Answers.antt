@@ -1,6 +1,5 @@
 -- The number is stored, a refusal stores none.
 use Rattle.point_store_c.specs.ExportedStore.{exported_reading}
-use borrow.Author.Rules.{rules}
 use Rattle.point_store_c.proofs.answers.number_out.Goals as goal
 
 pub returns-in-Refused : goal.returns-in-Refused

@@ -1,7 +1,6 @@
 -- The shape decides between 2 and the rest, the width between 15 and 1.
 use mathlib.Core.Path.{◌∙◌}
 use Rattle.point_store_c.proofs.ExportedHoldLaws.{short_wide, short_narrow, short_shape}
-use borrow.Author.Rules.{rules}
 use Rattle.point_store_c.proofs.hold_calls.short_hold.Goals as goal
 
 pub returns-then-width-shape : goal.returns-then-width-shape

@@ -1,6 +1,5 @@
 -- A record too short is read as none, a longer one by its store's words and the two more.
 use mathlib.Core.Path.{◌∙◌}
-use borrow.Author.Rules.{rules}
 use Rattle.point_store_c.proofs.HoldRecordLaws.{short_read, long_read}
 use Rattle.point_store_c.proofs.hold_record.hold_in.Goals as goal
 

@@ -1,5 +1,4 @@
 -- A record too short is left, a longer one has the store's words and then the two more.
-use native.Mathlib.Omega.{arith}
 use mathlib.Core.Path.{◌∙◌}
 use Rattle.point_store_c.proofs.HoldRecordLaws.{short_recorded, long_recorded}
 use Rattle.point_store_c.proofs.hold_record.hold_out.Goals as goal

@@ -1,5 +1,4 @@
 -- The store's words, then the two more.
-use native.Mathlib.Omega.{arith}
 use mathlib.Core.Path.{◌∙◌}
 use Rattle.point_store_c.proofs.HoldRecordLaws.{two_more}
 use Rattle.point_store_c.proofs.hold_record.hold_write.Goals as goal

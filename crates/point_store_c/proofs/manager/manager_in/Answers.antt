@@ -1,6 +1,5 @@
 -- A short record is read as none, a longer one by its two words.
 use Rattle.point_store_c.specs.ExportedLaws.{manager_short, manager_long}
-use borrow.Author.Rules.{rules}
 use Rattle.point_store_c.proofs.manager.manager_in.Goals as goal
 
 pub returns-then-words-lt-RECORD_WORDS : goal.returns-then-words-lt-RECORD_WORDS

@@ -4,7 +4,6 @@ use mathlib.Core.Path.{refl, sym, ◌∙◌, ap}
 use Rattle.interval_store_manager.specs.Answers.{done, refused, changed_means}
 use Rattle.interval_store_manager.specs.Calls.{change_spec}
 use Rattle.point_store_c.specs.ExportedLaws.{call_refused, call_done, accepted_long, change_refuses}
-use borrow.Author.Rules.{rules}
 use Rattle.point_store_c.proofs.manager.ps_manager_change_capacity.Goals as goal
 
 pub manager_out-requires : goal.manager_out-requires

@@ -4,7 +4,6 @@ use mathlib.Core.Path.{refl, sym, ◌∙◌, ap}
 use Rattle.interval_store_manager.specs.Answers.{given, refused, got_means}
 use Rattle.interval_store_manager.specs.Calls.{get_spec}
 use Rattle.point_store_c.specs.ExportedLaws.{call_refused, call_given, accepted_long, get_refuses}
-use borrow.Author.Rules.{rules}
 use Rattle.point_store_c.proofs.manager.ps_manager_get.Goals as goal
 
 pub manager_out-requires : goal.manager_out-requires

@@ -4,7 +4,6 @@ use mathlib.Core.Path.{sym, ◌∙◌, ap}
 use Rattle.interval_store_manager.specs.Answers.{refused, emptiness_means}
 use Rattle.interval_store_manager.specs.Calls.{is_empty_spec}
 use Rattle.point_store_c.specs.ExportedLaws.{reading_refused, reading_says}
-use borrow.Author.Rules.{rules}
 use Rattle.point_store_c.proofs.manager.ps_manager_is_empty.Goals as goal
 
 pub returns-in-Refused : goal.returns-in-Refused

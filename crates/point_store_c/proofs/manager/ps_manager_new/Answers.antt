@@ -3,7 +3,6 @@ use mathlib.Core.Bool.{Bool, cond}
 use mathlib.Core.Path.{sym, ◌∙◌, ap}
 use Rattle.interval_store_manager.specs.Answers.{refused, opened_means}
 use Rattle.point_store_c.specs.ExportedLaws.{open_short, open_refused, open_done}
-use borrow.Author.Rules.{rules}
 use Rattle.point_store_c.proofs.manager.ps_manager_new.Goals as goal
 
 pub returns-then-capacity_allowed : goal.returns-then-capacity_allowed

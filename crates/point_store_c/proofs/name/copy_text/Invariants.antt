@@ -1,11 +1,7 @@
 -- The loop's invariant: the first i entries are the text's, those past it are as they were.
-use Prim.Native.Nat.{ℕ, suc, ◌+◌, ◌-◌, ◌≤◌, ◌<◌}
-use native.Mathlib.Omega.{arith}
-use mathlib.Core.List.{List, [], ◌∷◌, ◌++◌}
-use mathlib.Core.Path.{◌≡◌, refl, sym, ◌∙◌, ap}
-use lib.ListN.{length, get_or, set, take, drop, length-set, take-append-drop}
-use lib.Seq.{take_all, take-suc, take-suc-set, drop-set-lt}
-use borrow.Author.Rules.{rules}
+use Prim.Native.Nat.{◌-◌, ◌≤◌}
+use mathlib.Core.Path.{◌≡◌}
+use lib.ListN.{length, take, drop}
 use Rattle.point_store_c.proofs.name.copy_text.Given as goal
 
 abbrev pub invariant-loop-i : goal.invariant-loop-i

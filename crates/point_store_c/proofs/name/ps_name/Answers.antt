@@ -1,6 +1,5 @@
 -- A slice too short is refused; else the text is copied.
 use Rattle.point_store_c.specs.Naming.{name_text, name_refused, name_given}
-use borrow.Author.Rules.{rules}
 use Rattle.point_store_c.proofs.name.ps_name.Goals as goal
 
 pub returns-then-out-lt80 : goal.returns-then-out-lt80

@@ -1,7 +1,6 @@
 -- The shape decides between 2 and 1.
 use mathlib.Core.Path.{◌∙◌}
 use Rattle.point_store_c.proofs.ExportedStoreLaws.{short_allowed, short_refused}
-use borrow.Author.Rules.{rules}
 use Rattle.point_store_c.proofs.opening.short_record.Goals as goal
 
 pub returns-then-within-shape : goal.returns-then-within-shape

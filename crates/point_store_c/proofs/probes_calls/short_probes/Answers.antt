@@ -1,6 +1,5 @@
 -- The shape decides between 2 and 1.
 use mathlib.Core.Path.{sym, ◌∙◌}
-use borrow.Author.Rules.{rules}
 use Rattle.point_store_c.proofs.ExportedProbesLaws.{short_positive, short_eight, short_other, short_shape}
 use Rattle.point_store_c.proofs.probes_calls.short_probes.Goals as goal
 

@@ -1,6 +1,6 @@
 -- A legal record gets the store's words and then the tallies, another is left.
 use native.Mathlib.Omega.{arith}
-use mathlib.Core.Path.{refl, sym, ◌∙◌}
+use mathlib.Core.Path.{sym, ◌∙◌}
 use Rattle.point_store_c.proofs.ProbesRecordLaws.{legal, legal_recorded, illegal_recorded}
 use Rattle.point_store_c.proofs.probes_record.probes_out.Goals as goal
 

@@ -1,5 +1,4 @@
 -- The store's words, then the tallies.
-use native.Mathlib.Omega.{arith}
 use mathlib.Core.Path.{◌∙◌}
 use Rattle.point_store_c.proofs.ProbesRecordLaws.{eight_more}
 use Rattle.point_store_c.proofs.probes_record.probes_write.Goals as goal

@@ -1,6 +1,5 @@
 -- Word by word.
 use mathlib.Core.Path.{refl}
-use borrow.Author.Rules.{rules}
 use Rattle.point_store_c.specs.ProbesRecords.{legal_tallies}
 use Rattle.point_store_c.proofs.probes_record.tallies_legal.Goals as goal
 

@@ -1,6 +1,5 @@
 -- Word by word: each fits.
 use native.Mathlib.Omega.{arith}
-use mathlib.Core.Path.{refl}
 use Rattle.point_store_c.proofs.ProbesRecordLaws.{legal}
 use Rattle.point_store_c.proofs.probes_record.tallies_read.Goals as goal
 

@@ -1,6 +1,5 @@
 -- A short record is illegal, a longer one by four of its words and its classes.
 use Rattle.point_store_c.proofs.RecordLaws.{short_illegal, long_legal}
-use borrow.Author.Rules.{rules}
 use Rattle.point_store_c.proofs.record.record_legal.Goals as goal
 
 pub returns-then-words-lt-RECORD_WORDS : goal.returns-then-words-lt-RECORD_WORDS

@@ -1,5 +1,4 @@
 -- The words before the classes, then the classes.
-use native.Mathlib.Omega.{arith}
 use mathlib.Core.Path.{◌∙◌}
 use Rattle.point_store_c.proofs.RecordLaws.{classes_after}
 use Rattle.point_store_c.proofs.record.record_write.Goals as goal

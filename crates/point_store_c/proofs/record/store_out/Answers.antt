@@ -1,6 +1,6 @@
 -- The words before the classes are written where the record is long enough and the store has a capacity.
 use mathlib.Core.Path.{◌∙◌}
-use Rattle.point_store_c.proofs.RecordLaws.{long_enough, head_recorded, left_recorded}
+use Rattle.point_store_c.proofs.RecordLaws.{head_recorded, left_recorded}
 use Rattle.point_store_c.proofs.record.store_out.Goals as goal
 
 pub returns-then-words-s : goal.returns-then-words-s
