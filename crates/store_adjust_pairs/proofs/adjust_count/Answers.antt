@@ -1,17 +1,15 @@
 -- What a step makes of the state is said in specs/Run.antt.
-use Rattle.std.specs.Prelude.{Bool, true, false, not, ◌≡◌, T}
+use Rattle.std.specs.Prelude.{Bool, false, not, ◌≡◌, T}
+use Rattle.std.proofs.lemmas.Float.{T_from_true}
 use Rattle.store_adjust_pairs.specs.Run.{begun, not_begun, went_on, stopped, ended}
 use Rattle.store_adjust_pairs.proofs.adjust_count.Goals as goal
-
-holds : (b : Bool) → b ≡ true → T b
-holds b e = rw e tt
 
 fails : (b : Bool) → b ≡ false → T (not b)
 fails b e = rw e tt
 
 pub returns-then-not-step : goal.returns-then-not-step
 returns-then-not-step c =
-    not_begun c.args.pairs.now _ c.first_step-step.result _ c.first_step-step.ensures (holds _ c.if-not-step.true)
+    not_begun c.args.pairs.now _ c.first_step-step.result _ c.first_step-step.ensures (T_from_true _ c.if-not-step.true)
 
 pub loop-i-init : goal.loop-i-init
 loop-i-init c =
@@ -20,7 +18,7 @@ loop-i-init c =
 pub returns-then-not-step-2 : goal.returns-then-not-step-2
 returns-then-not-step-2 c =
     stopped c.args.pairs.now _ c.loop-i.step _ c.loop-i.i c.loop-i.invariant c.loop-i-test.true c.next_step-step.result _
-    c.next_step-step.ensures (holds _ c.if-not-step-2.true)
+    c.next_step-step.ensures (T_from_true _ c.if-not-step-2.true)
 
 pub loop-i-preserved : goal.loop-i-preserved
 loop-i-preserved c =
