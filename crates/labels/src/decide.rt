@@ -4,13 +4,14 @@ ghost use Rattle.interval_store_manager.specs.Calls.{decision_means};
 ghost use Rattle.labels.specs.Decisions.{in_use, code_decided, room_decided, inc_decided, dec_decided};
 
 use crate::classes::LARGEST_CODE;
-use crate::entry::entry_u16;
+use crate::entry::entry;
 use interval_store_manager::IntervalStoreManager;
 use terms::{LabelIndex, NONE, Refusal};
 
 // Document 01: 'inc of a point or label count at 65,535'.
 const LARGEST_COUNT: u16 = 65535;
 
+#[tactic(auto, unfolding(crate::specs::Decisions::in_use))]
 pub fn label_in_use(
     store_labels: bool,
     capacity: usize,
@@ -22,13 +23,14 @@ pub fn label_in_use(
     let i = label.0;
     if store_labels {
         if i < capacity {
-            return 0 < entry_u16(label_count, i);
+            return 0 < entry(label_count, i, 0);
         }
     }
     false
 }
 
 // Whether an add may carry this code.
+#[tactic(auto, unfolding(crate::specs::Decisions::code_decided))]
 pub fn code_decision(store_labels: bool, code: usize) -> Result<(), Refusal>
     ensures { decision_means result ≡ code_decided store_labels code }
 {
@@ -41,6 +43,7 @@ pub fn code_decision(store_labels: bool, code: usize) -> Result<(), Refusal>
 }
 
 // Whether a kept add finds a label index.
+#[tactic(auto, unfolding(crate::specs::Decisions::room_decided))]
 pub fn room_decision(store_labels: bool, label_manager: IntervalStoreManager) -> Result<(), Refusal>
     ensures { decision_means result ≡ room_decided store_labels label_manager }
 {
@@ -52,6 +55,7 @@ pub fn room_decision(store_labels: bool, label_manager: IntervalStoreManager) ->
     Ok(())
 }
 
+#[tactic(auto, unfolding(crate::specs::Decisions::inc_decided))]
 pub fn inc_decision(
     store_labels: bool,
     capacity: usize,
@@ -62,7 +66,7 @@ pub fn inc_decision(
 {
     if store_labels {
         if label_in_use(store_labels, capacity, label_count, label) {
-            if entry_u16(label_count, label.0) == LARGEST_COUNT {
+            if entry(label_count, label.0, 0) == LARGEST_COUNT {
                 return Err(Refusal::CountFull);
             }
             return Ok(());
@@ -72,6 +76,7 @@ pub fn inc_decision(
     Ok(())
 }
 
+#[tactic(auto, unfolding(crate::specs::Decisions::dec_decided))]
 pub fn dec_decision(
     store_labels: bool,
     capacity: usize,
