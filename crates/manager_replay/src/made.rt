@@ -2,7 +2,7 @@
 use interval_store_manager::{
     ChangeResult, Changed, Emptiness, GetResult, Got, IntervalStoreManager, Number, Opened,
 };
-use terms::{Refusal, refusal_number};
+use terms::Refusal;
 
 pub const NEW: usize = 0;
 
@@ -38,7 +38,7 @@ pub struct Top {
 fn refused(manager: IntervalStoreManager, why: Refusal) -> Made {
     Made {
         manager,
-        value: refusal_number(why) as usize,
+        value: u64::from(why) as usize,
         answer: 0,
     }
 }

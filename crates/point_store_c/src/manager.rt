@@ -7,7 +7,7 @@ ghost use Rattle.point_store_c.specs.Exported.{manager_in, manager_out, exported
 use interval_store_manager::{
     Changed, Emptiness, Got, IntervalStoreManager, Number, Opened, capacity_allowed,
 };
-use terms::{Refusal, refusal_number};
+use terms::Refusal;
 
 const RECORD_WORDS: usize = 2;
 
@@ -46,13 +46,13 @@ pub extern "C" fn ps_manager_new(
 {
     if words.len() < RECORD_WORDS {
         if capacity_allowed(size) {
-            return refusal_number(Refusal::IllFormed);
+            return u64::from(Refusal::IllFormed);
         }
-        return refusal_number(Refusal::ManagerCapacity);
+        return u64::from(Refusal::ManagerCapacity);
     }
     let opened = IntervalStoreManager::new(size, starts, ends);
     match opened {
-        Opened::Refused(why) => refusal_number(why),
+        Opened::Refused(why) => u64::from(why),
         Opened::Manager(m) => {
             manager_out(words, m);
             0
@@ -73,7 +73,7 @@ pub extern "C" fn ps_manager_change_capacity(
     let answer = result.answer;
     let m = result.manager;
     match answer {
-        Changed::Refused(why) => refusal_number(why),
+        Changed::Refused(why) => u64::from(why),
         Changed::Done => {
             manager_out(words, m);
             0
@@ -95,7 +95,7 @@ pub extern "C" fn ps_manager_get(
     let answer = result.answer;
     let m = result.manager;
     match answer {
-        Got::Refused(why) => refusal_number(why),
+        Got::Refused(why) => u64::from(why),
         Got::Given(given) => {
             manager_out(words, m);
             *index = given.index as u64;
@@ -118,7 +118,7 @@ pub extern "C" fn ps_manager_release(
     let answer = result.answer;
     let m = result.manager;
     match answer {
-        Changed::Refused(why) => refusal_number(why),
+        Changed::Refused(why) => u64::from(why),
         Changed::Done => {
             manager_out(words, m);
             0
@@ -137,7 +137,7 @@ pub extern "C" fn ps_manager_used(
 {
     let answer = manager_in(words).used(starts, ends);
     match answer {
-        Number::Refused(why) => refusal_number(why),
+        Number::Refused(why) => u64::from(why),
         Number::Is(n) => {
             *used = n as u64;
             0
@@ -157,7 +157,7 @@ pub extern "C" fn ps_manager_is_empty(
 {
     let answer = manager_in(words).is_empty(starts, ends);
     match answer {
-        Emptiness::Refused(why) => refusal_number(why),
+        Emptiness::Refused(why) => u64::from(why),
         Emptiness::Empty(b) => {
             *empty = b as u64;
             0
@@ -176,7 +176,7 @@ pub extern "C" fn ps_manager_get_capacity(
 {
     let answer = manager_in(words).get_capacity(starts, ends);
     match answer {
-        Number::Refused(why) => refusal_number(why),
+        Number::Refused(why) => u64::from(why),
         Number::Is(n) => {
             *capacity = n as u64;
             0

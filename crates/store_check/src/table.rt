@@ -40,10 +40,7 @@ fn marked_well(
     let n = manager.capacity;
     let base = s.dimensions / s.shingle_size;
     let limit = place_limit(base, s.dimensions, s.start_free_region);
-    let checked = mark_free(manager, index_starts, index_ends, marks);
-    let managed = checked.ok;
-    let free = checked.free;
-    if managed {
+    if let Some(free) = mark_free(manager, index_starts, index_ends, marks) {
         if entries_well(n, limit, marks, reference_count, location) {
             return TableChecked {
                 ok: true,

@@ -12,7 +12,7 @@ ghost use Rattle.store_check.specs.Tables.{tables};
 ghost use Rattle.store_counts.specs.Tables.{emptied};
 
 use crate::decide::dec_test;
-use interval_store_manager::{Decision, IntervalStoreManager};
+use interval_store_manager::IntervalStoreManager;
 use labels::{LabelManagers, dec_label};
 use store_check::check;
 use store_definitions::{Done, DoneResult, Store};
@@ -157,11 +157,11 @@ pub fn dec_unchecked(
 {
     let d = dec_test(s, reference_count, label_count, index, label);
     match d {
-        Decision::Refuse(why) => DoneResult {
+        Err(why) => DoneResult {
             store: s,
             answer: Done::Refused(why),
         },
-        Decision::Go => {
+        Ok(()) => {
             let store = dec_accepted(
                 s,
                 floats,
