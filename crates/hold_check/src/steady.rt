@@ -1,6 +1,6 @@
 // A hold as its own calls leave it: one interval of free indices or two, and a list of one run of indices or two. Then nothing is
 // marked: each entry of the points' table is held against the intervals, and the places against their neighbours.
-ghost use Rattle.std.specs.Prelude.{◌≡◌, ◌+◌, ◌-◌, ◌*◌, ◌<◌, ◌≤◌, true, false, cond, ◌||◌, length, slice_index};
+ghost use Rattle.std.specs.Prelude.{◌≡◌, ◌+◌, ◌-◌, ◌*◌, ◌<◌, ◌≤◌, true, false, cond, ◌||◌, length, slice_index, IfSome};
 ghost use Rattle.interval_store_manager.specs.Intervals.{inside};
 ghost use Rattle.store_check.specs.PointsTest.{PointsReady};
 ghost use Rattle.hold_check.specs.Steady.{pair_apart, PairOf, pair_size, entry_held, entries_held, Steady};

@@ -8,8 +8,8 @@ use Rattle.hold_check.proofs.rise.places_rise.Goals as goal
 pub loop-k-init : goal.loop-k-init
 loop-k-init c = (omega arith, λ z. rises_none c.args.n 0 c.args.location.now)
 
-pub bounds-location-entry : goal.bounds-location-entry
-bounds-location-entry c =
+pub bounds-location-list : goal.bounds-location-list
+bounds-location-list c =
     let a = c.args in
     let k = c.loop-k.k in
     let inside = ltb-true (get_or a.list.now k 0) a.n (every_at a.held (λ (j : ℕ). ltb (get_or a.list.now j 0) a.n) (sym c.listed_below.ensures ∙ c.if-listed_below.true) k c.loop-k-test.true) in

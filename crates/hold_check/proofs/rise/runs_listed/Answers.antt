@@ -6,10 +6,11 @@ use Rattle.hold_check.proofs.TestLaws.{every_more}
 use Rattle.hold_check.proofs.rise.runs_listed.Goals as goal
 
 pub loop-k-init : goal.loop-k-init
-unfolding every_below
+unfolding runs_listed every_below
 loop-k-init c = refl
 
 pub loop-k-preserved : goal.loop-k-preserved
+unfolding runs_listed
 loop-k-preserved c =
     let a = c.args in
     let l = c.loop-k in

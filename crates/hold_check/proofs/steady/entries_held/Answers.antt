@@ -12,5 +12,5 @@ loop-i-init c = refl
 pub loop-i-preserved : goal.loop-i-preserved
 loop-i-preserved c =
     let l = c.loop-i in
-    let a = c.args in 
-    entries_more l.i a.start a.more a.other a.further a.reference_count.now a.location.now l.ok c.within-first.result c.within-second.result c.entry_held-ok.result l.invariant c.within-first.ensures c.within-second.ensures c.entry_held-ok.ensures
+    let a = c.args in
+    entries_more l.i a.pair.start a.pair.more a.pair.other a.pair.further a.reference_count.now a.location.now l.ok c.within-first.result c.within-second.result c.entry_held-ok.result l.invariant c.within-first.ensures c.within-second.ensures c.entry_held-ok.ensures
