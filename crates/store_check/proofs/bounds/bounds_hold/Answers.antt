@@ -1,6 +1,6 @@
 -- The two tests that stand on others are asked last.
 use Prim.Native.Nat.{◌*◌, ◌%◌}
-use mathlib.Core.Bool.{Bool, true, false, ◌&&◌, cond}
+use mathlib.Core.Bool.{Bool, false, ◌&&◌, cond}
 use mathlib.Core.Path.{sym, ap, ◌∙◌}
 use lib.Dec.{leb, eqb}
 use Rattle.store_definitions.specs.Bounds.{bounds_hold}
