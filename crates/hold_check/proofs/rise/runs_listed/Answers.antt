@@ -1,5 +1,5 @@
 -- The invariant: what holds of the entries below k.
-use Rattle.std.proofs.Common.{◌≡◌, ℕ, ◌+◌, eqb, get_or, refl, arith}
+use Rattle.std.proofs.Common.{ℕ, ◌+◌, eqb, get_or, refl}
 use Rattle.terms.specs.Below.{every_below}
 use Rattle.hold_check.specs.Runs.{turned, runs_listed}
 use Rattle.hold_check.proofs.TestLaws.{every_more}
