@@ -7,7 +7,7 @@ use Rattle.store_definitions.specs.Parts.{table_length}
 use Rattle.store_definitions.specs.WellFormed.{empty_uncounted, places_distinct, places_end}
 use Rattle.class_table.specs.Table.{table_allowed}
 use Rattle.store_check.specs.CheckLaws.{record_test, numbers_test, record_parts}
-use Rattle.store_check.specs.PointsTest.{table_test, TableFound}
+use Rattle.store_check.specs.PointsTest.{points_test, table_test, points_are, TableFound}
 use Rattle.hold_check.specs.Rising.{Rises, single_counts, ListKnown, rising_distinct, rising_listed}
 
 pub record_tested : (s : Store) (floats window counts places starts ends : ℕ) (table numbers : Bool) {b : Bool} → table ≡ table_allowed s.classes → numbers ≡ numbers_test s floats window counts places starts ends → (table && numbers) ≡ b → record_test s floats window counts places starts ends ≡ b
@@ -29,18 +29,21 @@ module _ (s : Store) (counts location starts ends : List ℕ) where
       let b = both (free_uncounted n t) _ a.1 in
       (both (empty_uncounted n counts location) (places_end n s location) b.1).0
 
-  module _ (ok : Bool) (live limit : ℕ) (f : TableFound s counts location starts ends ok live limit) (w : ok ≡ true) (lent : n ≤ length location) (list : List ℕ) (held : ℕ) (room : held ≤ length list) (rises : Bool) (r : rises ≡ true → (held ≡ live) × Rises n 65535 location (take held list)) where
+  pub points_by : {t d : Bool} → t ≡ table_test s counts location starts ends → d ≡ places_distinct n location → (t && d) ≡ points_test s counts location starts ends
+  points_by e f = ap₂ (λ (a b : Bool). a && b) e f ∙ points_are s counts location starts ends
+
+  module _ (live limit : ℕ) (f : TableFound s counts location live limit) (w : table_test s counts location starts ends ≡ true) (lent : n ≤ length location) (list : List ℕ) (held : ℕ) (room : held ≤ length list) (rises : Bool) (r : rises ≡ true → (held ≡ live) × Rises n 65535 location (take held list)) where
     pub list_distinct : rises ≡ true → places_distinct n location ≡ true
     list_distinct t =
-        rising_distinct n counts location (take held list) (r t).1 lent (table_empty (sym f.is ∙ w))
-        (length-take-le held list room ∙ (r t).0 ∙ f.live_is w)
+        rising_distinct n counts location (take held list) (r t).1 lent (table_empty w)
+        (length-take-le held list room ∙ (r t).0 ∙ f.live_is)
 
     pub list_known : (listed : Bool) → listed ≡ (rises && single_counts n counts) → ListKnown n held live counts list listed
     list_known listed e t =
         let b = both rises (single_counts n counts) (sym e ∙ t) in (
           (r b.0).0,
           sym
-              (rising_listed n counts location (take held list) (r b.0).1 lent (table_empty (sym f.is ∙ w))
-              (length-take-le held list room ∙ (r b.0).0 ∙ f.live_is w))
+              (rising_listed n counts location (take held list) (r b.0).1 lent (table_empty w)
+              (length-take-le held list room ∙ (r b.0).0 ∙ f.live_is))
               ∙ b.1,
         )

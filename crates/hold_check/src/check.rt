@@ -76,7 +76,7 @@ pub fn check_hold(
         held_indices.len(),
         held_labels.len(),
     ) {
-        let checked = store_well(
+        if let Some(checked) = store_well(
             s,
             store.len(),
             last_known_shingle.len(),
@@ -95,9 +95,7 @@ pub fn check_hold(
             attribute_ends,
             h.held,
             held_indices,
-        );
-        let well = checked.ok;
-        if well {
+        ) {
             let figures = checked.figures;
             let ok = list_well(
                 checked.listed,

@@ -15,11 +15,7 @@ fn copy_list(list: &[u16], out: &mut [u16])
     requires { length out.old ≤ length list.now }
     ensures { out.new ≡ take (length out.old) list.now }
 {
-    let mut k = 0;
-    while k < out.len() {
-        out[k] = list[k];
-        k += 1;
-    }
+    out.copy_from_slice(&list[..out.len()]);
 }
 
 // The held point indices, oldest first. The output is exactly as long as the list.

@@ -12,14 +12,7 @@ const ABSENT: u8 = 2;
 fn any_above(limit: u8, kinds: &[u8]) -> bool
     ensures { result ≡ any_above limit kinds.now }
 {
-    let mut k = 0;
-    while k < kinds.len() {
-        if limit < kinds[k] {
-            return true;
-        }
-        k += 1;
-    }
-    false
+    kinds.iter().any(|kind| limit < *kind)
 }
 
 // Eight kinds and eight words, else 3; then 11; then 16.

@@ -1,3 +1,4 @@
+mod BoundsTests
 mod EntryLaws
 mod PlaceLaws
 mod TableLaws

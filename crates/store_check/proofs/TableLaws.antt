@@ -2,7 +2,7 @@
 use Prim.Native.Nat.{ℕ, ◌+◌, ◌-◌, ◌*◌, ◌<◌}
 use native.Mathlib.Omega.{arith}
 use mathlib.Core.List.{List}
-use mathlib.Core.Bool.{Bool, true, false, ◌&&◌, ◌||◌, not, beq, false≢true}
+use mathlib.Core.Bool.{Bool, true, false, ◌&&◌, ◌||◌, not, beq}
 use mathlib.Core.Path.{◌≡◌, refl, sym, ◌∙◌, ap}
 use lib.ListN.{get_or}
 use lib.Dec.{leb, ltb, eqb}
@@ -120,28 +120,17 @@ module _ (s : Store) (counts location starts ends marks : List ℕ) (r : PointsR
     all_or_live number w e =
         omega (arith, table_live (checked.marked (known number w).0) (entries true e), (known number w).1)
 
-    pub entries_pass : (number : ℕ) → answer ≡ Some number → entries_well n found marks counts location ≡ true → TableFound s counts location starts ends true (n - number) found
+    pub entries_decide : {b : Bool} (number : ℕ) → answer ≡ Some number → entries_well n found marks counts location ≡ b → b ≡ table_test s counts location starts ends
+    entries_decide {b} number w e = let k = known number w in sym (entries b e) ∙ table_is k.0 (checked.marked k.0)
+
+    pub entries_pass : (number : ℕ) → answer ≡ Some number → entries_well n found marks counts location ≡ true → TableFound s counts location (n - number) found
     entries_pass number w e =
         let b = in_bounds s.dimensions s.shingle_size s.capacity r.bounds in
-        let k = known number w in
         record {
-          is = sym (entries true e) ∙ table_is k.0 (checked.marked k.0);
-          live_is = λ t. omega (arith, all_or_live number w e);
-          limit_most = λ t. rw q (limit_most base s.dimensions free b.dims_least r.free_most);
-          places_below = λ t. rw q (table_below (entries true e));
+          live_is = omega (arith, all_or_live number w e);
+          limit_most = rw q (limit_most base s.dimensions free b.dims_least r.free_most);
+          places_below = rw q (table_below (entries true e));
         }
 
-    not_found : false ≡ table_test s counts location starts ends → TableFound s counts location starts ends false 0 0
-    not_found e =
-        record {
-          is = e;
-          live_is = λ t. absurd (false≢true t);
-          limit_most = λ t. absurd (false≢true t);
-          places_below = λ t. absurd (false≢true t);
-        }
-
-    pub entries_fail : (number : ℕ) → answer ≡ Some number → entries_well n found marks counts location ≡ false → TableFound s counts location starts ends false 0 0
-    entries_fail number w e = let k = known number w in not_found (sym (entries false e) ∙ table_is k.0 (checked.marked k.0))
-
-    pub manager_fails : answer ≡ None → TableFound s counts location starts ends false 0 0
-    manager_fails w = not_found (table_fails (checked_none s.index_manager starts ends (sym checked.is ∙ w)))
+    pub manager_fails : answer ≡ None → false ≡ table_test s counts location starts ends
+    manager_fails w = table_fails (checked_none s.index_manager starts ends (sym checked.is ∙ w))

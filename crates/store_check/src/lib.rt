@@ -65,9 +65,7 @@ pub fn check(
         ends: index_ends.len(),
     };
     if record_well(s, lent) {
-        let points = points_well(s, reference_count, location, index_starts, index_ends);
-        let well = points.ok;
-        if well {
+        if let Some(live) = points_well(s, reference_count, location, index_starts, index_ends) {
             let label_manager = s.label_manager;
             let attribute_manager = s.attribute_manager;
             let managers = LabelManagers {
@@ -92,10 +90,7 @@ pub fn check(
             let free = half.free;
             return StoreChecked {
                 ok: half.ok,
-                figures: Figures {
-                    live: points.live,
-                    free,
-                },
+                figures: Figures { live, free },
             };
         }
     }

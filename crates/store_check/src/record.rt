@@ -27,33 +27,14 @@ pub fn numbers_well(s: Store, lent: Lengths) -> bool
     let dimensions = s.dimensions;
     let capacity = s.capacity;
     if bounds_hold(dimensions, s.shingle_size, capacity) {
-        if lent.floats < capacity * dimensions {
-            return false;
-        }
-        if lent.window < dimensions {
-            return false;
-        }
-        if lent.counts < capacity {
-            return false;
-        }
-        if lent.places < capacity {
-            return false;
-        }
-        if lent.starts < capacity {
-            return false;
-        }
-        if lent.ends < capacity {
-            return false;
-        }
-        let manager = s.index_manager;
-        if capacity < manager.capacity {
-            return false;
-        }
-        if capacity * dimensions < s.store_length {
-            return false;
-        }
+        let floats = capacity * dimensions;
+        let rows = (floats <= lent.floats) & (dimensions <= lent.window);
+        let entries = (capacity <= lent.counts) & (capacity <= lent.places);
+        let stack = (capacity <= lent.starts) & (capacity <= lent.ends);
+        let within = (s.index_manager.capacity <= capacity) & (s.store_length <= floats);
         let started = free_start_well(s);
-        return (s.next_sequence_index <= LAST_SEQUENCE) & started;
+        let numbered = (s.next_sequence_index <= LAST_SEQUENCE) & started;
+        return rows & (entries & (stack & (within & numbered)));
     }
     false
 }
