@@ -68,6 +68,11 @@ no_record =
       classes = replicate 24 0;
     }
 
+-- the record that an opening leaves
+abbrev pub opened_store : Result Store Refusal → Store
+opened_store (Ok s) = s
+opened_store (Err _) = no_record
+
 -- the first n entries made x; a longer slice keeps its rest
 abbrev pub filled_first : {X : Type 0} → ℕ → X → List X → List X
 filled_first n x xs = replicate n x ++ drop n xs

@@ -1,0 +1,49 @@
+-- What the check answers: what is counted of a store that is well-formed, and of any other nothing.
+use Rattle.std.specs.Prelude.{ℕ, Bool, true, false, cond, length, Option, Some, None, Result, Ok, Err, ◌≡◌}
+use Rattle.std.proofs.Common.{refl, sym, ap, ◌∙◌}
+use Rattle.std.specs.Option.{ok_or}
+use Rattle.labels.specs.declared.LabelsFree.{LabelsFree}
+use Rattle.label_check.specs.Checked.{free_in}
+use Rattle.store_definitions.specs.declared.Store.{Store}
+use Rattle.store_definitions.specs.Memory.{Memory, PointStore, point_store}
+use Rattle.store_definitions.specs.Parts.{table_length, label_half}
+use Rattle.store_definitions.specs.WellFormed.{well_formed}
+use Rattle.store_check.specs.declared.Figures.{Figures}
+use Rattle.store_check.specs.CheckLaws.{elementless, well_formed_lengths}
+use Rattle.store_check.specs.Entries.{counts_live}
+use Rattle.store_check.specs.Figures.{FiguresOf}
+
+-- with labels off the free label indices and slots are not counted
+abbrev pub figures_in : {E : Type 0} → PointStore E → Figures
+figures_in p =
+    record {
+      live = counts_live (table_length p.header) p.memory.reference_count;
+      free = cond p.header.store_labels (free_in (label_half p)) (record { labels = 0; slots = 0 });
+    }
+
+unfoldable pub checked : {E : Type 0} → PointStore E → Option Figures
+checked p = cond (well_formed p) (Some (figures_in p)) None
+
+-- of the elements the check sees how many there are
+pub checked_lengths : {E : Type 0} (s : Store) (m : Memory E) → checked (point_store s (elementless m)) ≡ checked (point_store s m)
+unfolding checked
+checked_lengths s m = ap (λ (b : Bool). cond b (Some (figures_in (point_store s m))) None) (well_formed_lengths s m)
+
+figures_are : {E : Type 0} (p : PointStore E) → FiguresOf (figures_in p) p
+figures_are p = record { live_is = refl; labels_free = λ on. rw on (record { labels = refl; slots = refl }) }
+
+found : {E : Type 0} (p : PointStore E) (b : Bool) (f : Figures) → cond b (Some (figures_in p)) None ≡ Some f → (b ≡ true) × FiguresOf f p
+found p true f e = let g : figures_in p ≡ f = cc in (refl, subst (λ (x : Figures). FiguresOf x p) g (figures_are p))
+found p false f e = cc
+
+pub checked_some : {E : Type 0} (p : PointStore E) (f : Figures) → checked p ≡ Some f → (well_formed p ≡ true) × FiguresOf f p
+unfolding checked
+checked_some p f e = found p (well_formed p) f e
+
+pub checked_none : {E : Type 0} (p : PointStore E) → checked p ≡ None → well_formed p ≡ false
+unfolding checked
+checked_none p e = ill (well_formed p) e
+  where
+    ill : (b : Bool) → cond b (Some (figures_in p)) None ≡ None → b ≡ false
+    ill true e = cc
+    ill false e = refl
