@@ -7,7 +7,8 @@ ghost use Rattle.placement_rows.specs.OnePass.{Tabled};
 
 use super::NO_INDEX;
 use super::index_table::index_places;
-use super::one_pass::{Shape, scan_places};
+use super::one_pass::scan_places;
+use super::shape::Shape;
 use terms::FloatBits;
 
 // `index_at` has an entry for every place that a point can have.

@@ -8,16 +8,9 @@ ghost use Rattle.placement_rows.specs.Compactable.{layout};
 ghost use Rattle.placement_rows.specs.OnePass.{run_of, Carried, Copyable, Ready, Scannable, met, scan, state};
 
 use super::NO_INDEX;
+use super::shape::Shape;
 use super::words::copy_down;
 use terms::FloatBits;
-
-// How points lie in the store.
-#[derive(Clone, Copy)]
-pub struct Shape {
-    pub dimensions: usize,
-    pub base: usize,
-    pub rotation: bool,
-}
 
 // The write position, and the end of what was read. Both divided by base are carried along, so that no point asks for a division.
 #[derive(Clone, Copy)]
