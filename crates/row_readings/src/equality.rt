@@ -8,7 +8,7 @@ ghost use Rattle.store_rows.specs.Copying.{Readable};
 ghost use Rattle.row_readings.specs.EqualityLaws.{checked_equality};
 
 use float_bits::rows_equal;
-use placement_rows::turned_by;
+use placement_rows::Shape;
 use store_counts::point_in_use;
 use store_definitions::{Equality, Store};
 use terms::{FloatBits, PointIndex, Refusal};
@@ -24,21 +24,14 @@ fn turned_equals(row: &[FloatBits], point: &[FloatBits], dimensions: usize, t: u
     first & second
 }
 
-pub fn copy_equals(
-    store: &[FloatBits],
-    point: &[FloatBits],
-    rotation: bool,
-    dimensions: usize,
-    base: usize,
-    place: usize,
-) -> bool
-    requires { (0 < dimensions) × (length point.now ≡ dimensions) × (place * base + dimensions ≤ length store.now) }
-    ensures { result ≡ all_equal words_equal (copied rotation dimensions base place store.now) point.now }
+pub fn copy_equals(store: &[FloatBits], point: &[FloatBits], shape: Shape, place: usize) -> bool
+    requires { (0 < shape.dimensions) × (length point.now ≡ shape.dimensions) × (place * shape.base + shape.dimensions ≤ length store.now) }
+    ensures { result ≡ all_equal words_equal (copied shape.rotation shape.dimensions shape.base place store.now) point.now }
 {
-    let t = turned_by(rotation, dimensions, base, place);
-    let start = place * base;
-    let end = start + dimensions;
-    turned_equals(&store[start..end], point, dimensions, t)
+    let t = shape.turn_at(place);
+    let start = place * shape.base;
+    let end = start + shape.dimensions;
+    turned_equals(&store[start..end], point, shape.dimensions, t)
 }
 
 pub fn is_equal_unchecked(
@@ -60,8 +53,8 @@ pub fn is_equal_unchecked(
         return Equality::Refused(Refusal::Length);
     }
     let at = index.0;
-    let base = dimensions / s.shingle_size;
+    let shape = Shape::new(dimensions, s.shingle_size, s.internal_rotation);
     let place = location[at] as usize;
-    let equal = copy_equals(store, point, s.internal_rotation, dimensions, base, place);
+    let equal = copy_equals(store, point, shape, place);
     Equality::Is(equal)
 }

@@ -25,10 +25,8 @@ fn values_below(values: &[usize], limit: usize) -> bool
     ensures { result ≡ values_below limit values.now }
 {
     let mut below = true;
-    let mut i = 0;
-    while i < values.len() {
-        below = below & (values[i] < limit);
-        i += 1;
+    for value in values {
+        below = below & (*value < limit);
     }
     below
 }
@@ -55,10 +53,8 @@ fn move_values(first: usize, values: &[usize], out: &mut [usize])
     requires { (length out.old ≡ length values.now) × ((i : ℕ) → i < length values.now → first + get_or values.now i 0 < 2 ^ 64) }
     ensures { out.new ≡ map (λ v. first + v) values.now }
 {
-    let mut i = 0;
-    while i < values.len() {
-        out[i] = first + values[i];
-        i += 1;
+    for (i, value) in values.iter().enumerate() {
+        out[i] = first + *value;
     }
 }
 
@@ -66,10 +62,8 @@ fn count_from(first: usize, out: &mut [usize])
     requires { first + length out.old < 2 ^ 64 }
     ensures { out.new ≡ map (λ v. first + v) (up_to (length out.old) []) }
 {
-    let mut i = 0;
-    while i < out.len() {
-        out[i] = first + i;
-        i += 1;
+    for (i, entry) in out.iter_mut().enumerate() {
+        *entry = first + i;
     }
 }
 

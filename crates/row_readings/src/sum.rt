@@ -35,14 +35,11 @@ pub fn item_test(s: Store, reference_count: &[u16], index: usize, weight: usize)
 fn items_test(s: Store, reference_count: &[u16], items: &[[usize; 2]]) -> Result<(), Refusal>
     ensures { decision_means result ≡ items_decided (point_store s (counts_alone reference_count.now [])) (weightings items.now) }
 {
-    let mut i = 0;
-    while i < items.len() {
-        let item = items[i];
+    for item in items {
         let decision = item_test(s, reference_count, item[0], item[1]);
         if let Err(why) = decision {
             return Err(why);
         }
-        i += 1;
     }
     Ok(())
 }
@@ -50,11 +47,7 @@ fn items_test(s: Store, reference_count: &[u16], items: &[[usize; 2]]) -> Result
 pub fn clear(out: &mut [f32])
     ensures { out.new ≡ replicate (length out.old) (float_of plus_zero) }
 {
-    let mut i = 0;
-    while i < out.len() {
-        out[i] = 0.0;
-        i += 1;
-    }
+    out.fill(0.0);
 }
 
 // One item that was judged: its row as it is stored, times its weight, is added to the sums.
@@ -81,11 +74,8 @@ fn add_items(s: Store, store: &[FloatBits], location: &[u16], items: &[[usize; 2
     requires { (length out.old ≡ s.dimensions) × AllAddable s (length store.now) location.now items.now }
     ensures { out.new ≡ summed add_scaled (point_store s (rows_alone store.now [] location.now)) (weightings items.now) out.old }
 {
-    let mut i = 0;
-    while i < items.len() {
-        let item = items[i];
+    for item in items {
         add_item(s, store, location, item[0], item[1], out);
-        i += 1;
     }
 }
 

@@ -39,11 +39,7 @@ fn make_room(s: Store, store: &mut [FloatBits], location: &mut [u16]) -> Extent
             store_length: length,
         };
     }
-    let shape = Shape {
-        dimensions,
-        base: dimensions / s.shingle_size,
-        rotation: s.internal_rotation,
-    };
+    let shape = Shape::new(dimensions, s.shingle_size, s.internal_rotation);
     let table_length = s.index_manager.capacity;
     let start = compact(store, location, table_length, shape, free);
     if start + dimensions <= length {

@@ -17,11 +17,7 @@ pub fn compact_unchecked(s: Store, store: &mut [FloatBits], location: &mut [u16]
     ensures { rows store.new location.new result s.store_length ≡ compacted_rows 0 s (rows store.old location.old s.start_free_region s.store_length) }
 {
     let manager = s.index_manager;
-    let shape = Shape {
-        dimensions: s.dimensions,
-        base: s.dimensions / s.shingle_size,
-        rotation: s.internal_rotation,
-    };
+    let shape = Shape::new(s.dimensions, s.shingle_size, s.internal_rotation);
     placement_rows::compact(
         store,
         location,

@@ -6,6 +6,7 @@ ghost use Rattle.store_definitions.specs.Memory.{point_store};
 ghost use Rattle.store_definitions.specs.Rows.{copy_spec};
 ghost use Rattle.store_rows.specs.Copying.{Readable, checked_copy};
 
+use placement_rows::Shape;
 use store_check::check;
 use store_definitions::{Done, Store};
 use terms::{FloatBits, PointIndex, Refusal};
@@ -34,9 +35,9 @@ pub fn copy_unchecked(
     if out.len() != dimensions {
         return Done::Refused(Refusal::Length);
     }
-    let base = dimensions / s.shingle_size;
+    let shape = Shape::new(dimensions, s.shingle_size, s.internal_rotation);
     let place = location[at] as usize;
-    placement_rows::copy(store, out, s.internal_rotation, dimensions, base, place);
+    shape.copy(store, out, place);
     Done::Done
 }
 

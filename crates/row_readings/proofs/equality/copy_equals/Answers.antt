@@ -10,6 +10,6 @@ use Rattle.row_readings.proofs.equality.copy_equals.Goals as goal
 pub returns : goal.returns
 returns c =
     let a = c.args in
-    let turn = c.turned_by-t in
+    let turn = c.turn_at-t in
     c.turned_equals.ensures
-    ∙ ap (λ (l : List ℕ). all_equal words_equal l a.point.now) (copied_part a.rotation a.dimensions a.base a.place turn.result a.store.now turn.ensures.0)
+    ∙ ap (λ (l : List ℕ). all_equal words_equal l a.point.now) (copied_part a.shape.rotation a.shape.dimensions a.shape.base a.place turn.result a.store.now turn.ensures.0)

@@ -1,6 +1,5 @@
 -- A turn is one item: the rest of the list is added to the sums so far.
 use Prim.Native.Nat.{◌+◌}
-use native.Mathlib.Numerals.{add-one-le}
 use mathlib.Core.List.{List, []}
 use mathlib.Core.Path.{sym, ap, ◌∙◌}
 use lib.Ieee.{Float}
@@ -12,14 +11,14 @@ use Rattle.row_readings.specs.Items.{weightings}
 use Rattle.row_readings.specs.SumLaws.{next_added, none_added}
 use Rattle.row_readings.proofs.sum.add_items.Goals as goal
 
-pub loop-i-preserved : goal.loop-i-preserved
-loop-i-preserved c =
+pub loop-item-preserved : goal.loop-item-preserved
+loop-item-preserved c =
     let a = c.args in
-    let at = c.loop-i in
-    (add-one-le c.loop-i-test.true, c.add_item.auto.out ∙ at.invariant.1, ap (λ (sums : List Float). summed add_scaled (point_store a.s (rows_alone a.store.now [] a.location.now)) (weightings (drop (at.i + 1) a.items.now)) sums) c.add_item.ensures ∙ sym (next_added (point_store a.s (rows_alone a.store.now [] a.location.now)) a.items.now at.i c.loop-i-test.true add_scaled at.out) ∙ at.invariant.2)
+    let at = c.loop-item in
+    (c.add_item.auto.out ∙ at.invariant.0, ap (λ (sums : List Float). summed add_scaled (point_store a.s (rows_alone a.store.now [] a.location.now)) (weightings (drop (at.item-index + 1) a.items.now)) sums) c.add_item.ensures ∙ sym (next_added (point_store a.s (rows_alone a.store.now [] a.location.now)) a.items.now at.item-index c.loop-item-test.true add_scaled at.out) ∙ at.invariant.1)
 
 pub returns : goal.returns
 returns c =
     let a = c.args in
-    let at = c.loop-i in
-    sym (none_added (point_store a.s (rows_alone a.store.now [] a.location.now)) add_scaled a.items.now at.i at.out c.loop-i-test.false) ∙ at.invariant.2
+    let at = c.loop-item in
+    sym (none_added (point_store a.s (rows_alone a.store.now [] a.location.now)) add_scaled a.items.now at.item-index at.out c.loop-item-test.false) ∙ at.invariant.1

@@ -1,5 +1,8 @@
 -- Each way out is one of the laws of `Copying`.
+use Rattle.std.proofs.Common.{ap, ◌∙◌}
 use Rattle.terms.specs.Below.{positive}
+use Rattle.placement.specs.Copying.{copied}
+use Rattle.placement_rows.specs.declared.shape.Shape.{Shape}
 use lib.ListN.{get_or}
 use Rattle.store_rows.specs.Copying.{past_table, not_counted, other_length, row_copied}
 use Rattle.store_rows.proofs.copying.copy_unchecked.Goals as goal
@@ -22,4 +25,5 @@ returns-then-out-dimensions c =
 pub returns : goal.returns
 returns c =
     let a = c.args in
-    row_copied a.s a.store.now a.reference_count.now a.location.now a.index.0 a.out.now c.copy.new.out c.requires.places_lent c.if-manager-at.false (positive (get_or a.reference_count.now a.index.0 0) c.if-reference_count-at-eq0.false) c.if-out-dimensions.false c.copy.ensures
+    row_copied a.s a.store.now a.reference_count.now a.location.now a.index.0 a.out.now c.copy.new.out c.requires.places_lent c.if-manager-at.false (positive (get_or a.reference_count.now a.index.0 0) c.if-reference_count-at-eq0.false) c.if-out-dimensions.false
+    (c.copy.ensures ∙ ap (λ (h : Shape). copied h.rotation h.dimensions h.base (get_or a.location.now a.index.0 0) a.store.now) c.new-shape.ensures)
