@@ -2,6 +2,7 @@
 -- accepted field is the one that writing makes.
 use Rattle.std.specs.Prelude.{ℕ, zero, suc, ◌+◌, ◌-◌, ◌*◌, ◌/◌, ◌%◌, ◌^◌, ◌≤◌, ◌<◌, List, [], ◌∷◌, ◌++◌, Bool, true, false, cond, ◌&&◌, Some, None, ◌≡◌, refl, length, leb}
 use Rattle.std.proofs.Common.{pow-suc, zero-add, add-zero, add-suc, suc-add, arith, sym, ap, ◌∙◌, length-append, ne_eqb, le-leb, leb-true}
+use Rattle.std.proofs.lemmas.Option.{none-some}
 use Rattle.decimal.specs.Field.{column, columns, field, digit, value_from, value, is_field, field_read}
 use Rattle.decimal.specs.Bytes.{same_refl, same_equal}
 
@@ -70,7 +71,7 @@ is_field_lem bs n e = same_equal bs (field (length bs) n) e
 
 number_read : (t : Bool) (v n : ℕ) → cond t (Some v) None ≡ Some n → (t ≡ true) × (v ≡ n)
 number_read true v n e = (refl, cc)
-number_read false v n e = absurd (let z : ◌≡◌ {A = ℕ} 0 1 = cc in omega arith)
+number_read false v n e = absurd (none-some n e)
 
 -- an accepted field is the one that writing makes
 pub accepted_is_written : (bs : List ℕ) (n : ℕ) → field_read bs ≡ Some n → bs ≡ field (length bs) n
