@@ -1,5 +1,5 @@
 -- Document 02, Point 6: the text of a table, and the table that a text holds.
-use Rattle.std.specs.Prelude.{ℕ, zero, suc, cond, ◌&&◌, Option, Some, None, List, [], ◌∷◌, take, drop}
+use Rattle.std.specs.Prelude.{ℕ, zero, suc, cond, ◌&&◌, Option, Some, None, unwrap_or, List, [], ◌∷◌, take, drop, replicate}
 use Rattle.decimal.specs.Field.{value, same_bytes}
 use Rattle.decimal.specs.Lines.{lines}
 use Rattle.class_table.specs.Table.{table_allowed}
@@ -24,3 +24,7 @@ classes_of (suc n) t = line_class t ∷ classes_of n (drop 9 t)
 -- accepted is the text of an allowed table, and none other ('Any other text gets 17')
 unfoldable pub table_read : List ℕ → Option (List ℕ)
 table_read t = cond (same_bytes t (table_text (classes_of 24 t)) && table_allowed (classes_of 24 t)) (Some (classes_of 24 t)) None
+
+-- the table of a text, and the table of zeros where it holds none
+abbrev pub table_of : List ℕ → List ℕ
+table_of t = unwrap_or (table_read t) (replicate 24 0)

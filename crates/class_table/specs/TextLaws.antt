@@ -1,6 +1,7 @@
 -- The text of a table is read back as the table, two tables share no text, and every accepted text is the text of its table.
-use Rattle.std.specs.Prelude.{ℕ, suc, ◌+◌, ◌*◌, ◌^◌, ◌≤◌, ◌<◌, true, ◌&&◌, Some, List, [], ◌∷◌, ◌++◌, ◌≡◌, refl, length, get_or, leb, eqb}
+use Rattle.std.specs.Prelude.{ℕ, suc, ◌+◌, ◌*◌, ◌^◌, ◌≤◌, ◌<◌, true, ◌&&◌, Option, Some, None, is_some, unwrap_or, List, [], ◌∷◌, ◌++◌, ◌≡◌, refl, length, get_or, replicate, leb, eqb}
 use Rattle.std.proofs.Common.{arith, append_assoc, append-nil, sym, ap, ◌∙◌, length-append, drop_at, eqb-true, leb-true}
+use Rattle.std.proofs.lemmas.Bool.{false≢true}
 use Rattle.std.proofs.lemmas.Option.{cond_some}
 use Rattle.terms.specs.Below.{every_below, both, every_at}
 use Rattle.decimal.specs.Field.{field, same_bytes}
@@ -9,7 +10,7 @@ use Rattle.decimal.specs.Bytes.{same_refl, same_equal}
 use Rattle.decimal.specs.Lines.{fields, line, lines}
 use Rattle.decimal.proofs.LinesLaws.{length_line, field_at}
 use Rattle.class_table.specs.Table.{class_of, occurs, largest, table_allowed}
-use Rattle.class_table.specs.Text.{numbered, table_text, line_class, classes_of, table_read}
+use Rattle.class_table.specs.Text.{numbered, table_text, line_class, classes_of, table_read, table_of}
 
 -- ---- what an allowed table is
 
@@ -83,3 +84,10 @@ text_accepted t classes e =
     let read = cond_some (same_bytes t (table_text (classes_of 24 t)) && table_allowed (classes_of 24 t)) (classes_of 24 t) classes e in
     let p = both (same_bytes t (table_text (classes_of 24 t))) (table_allowed (classes_of 24 t)) read.0 in
     rw (← read.1) (same_equal t (table_text (classes_of 24 t)) p.0, p.1)
+
+pub table_of_read : (t : List ℕ) → is_some (table_read t) ≡ true → table_read t ≡ Some (table_of t)
+table_of_read t = by (table_read t)
+  where
+    by : (o : Option (List ℕ)) → is_some o ≡ true → o ≡ Some (unwrap_or o (replicate 24 0))
+    by (Some classes) e = refl
+    by None e = absurd (false≢true e)
