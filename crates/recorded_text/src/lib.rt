@@ -20,32 +20,20 @@ pub fn number_at(text: &[u8], at: usize) -> Numeral
     ensures { result ≡ number_at text.now at }
 {
     let mut value: usize = 0;
-    let mut i = at;
-    while i < text.len() {
-        let b = text[i] as usize;
-        i += 1;
-        if b < 48 {
-            return Numeral { value, next: i };
+    for i in at..text.len() {
+        let b = text[i];
+        if !b.is_ascii_digit() || MOST < value {
+            return Numeral { value, next: i + 1 };
         }
-        if 57 < b {
-            return Numeral { value, next: i };
-        }
-        if MOST < value {
-            return Numeral { value, next: i };
-        }
-        value = value * 10 + (b - 48);
+        value = value * 10 + (b - b'0') as usize;
     }
-    Numeral { value, next: i }
+    Numeral {
+        value,
+        next: at.max(text.len()),
+    }
 }
 
+// How many lines end in the text.
 pub fn count_lines(text: &[u8]) -> usize {
-    let mut lines: usize = 0;
-    let mut i = 0;
-    while i < text.len() {
-        if text[i] == b'\n' {
-            lines += 1;
-        }
-        i += 1;
-    }
-    lines
+    text.iter().filter(|b| **b == b'\n').count()
 }

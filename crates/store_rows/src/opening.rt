@@ -227,7 +227,7 @@ pub fn open(
     let read = read_classes(class_text);
     let d = opening_decision(
         shape,
-        read.ok,
+        read.is_some(),
         store,
         last_known_shingle,
         reference_count,
@@ -253,7 +253,7 @@ pub fn open(
             }
         }
         Ok(()) => {
-            let classes = read.classes;
+            let classes = read.unwrap_or([0u8; 24]);
             let fresh = fresh_record(shape, classes);
             open_points(
                 shape,
