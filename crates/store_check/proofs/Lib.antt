@@ -2,3 +2,4 @@ mod BoundsTests
 mod EntryLaws
 mod PlaceLaws
 mod TableLaws
+mod CheckedLaws

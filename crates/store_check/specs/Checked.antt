@@ -1,6 +1,7 @@
 -- What the check answers: what is counted of a store that is well-formed, and of any other nothing.
 use Rattle.std.specs.Prelude.{ℕ, Bool, true, false, cond, length, Option, Some, None, Result, Ok, Err, ◌≡◌}
-use Rattle.std.proofs.Common.{refl, sym, ap, ◌∙◌}
+use Rattle.std.proofs.Common.{refl, sym, ap, ◌∙◌, subst}
+use Rattle.terms.specs.declared.Refusal.{Refusal}
 use Rattle.std.specs.Option.{ok_or}
 use Rattle.labels.specs.declared.LabelsFree.{LabelsFree}
 use Rattle.label_check.specs.Checked.{free_in}
@@ -47,3 +48,12 @@ checked_none p e = ill (well_formed p) e
     ill : (b : Bool) → cond b (Some (figures_in p)) None ≡ None → b ≡ false
     ill true e = cc
     ill false e = refl
+
+-- the same after the answer has gone through `ok_or`
+pub checked_ok : {E : Type 0} (p : PointStore E) (answer : Option Figures) (why : Refusal) (f : Figures) → answer ≡ checked p → ok_or answer why ≡ Ok f → (well_formed p ≡ true) × FiguresOf f p
+checked_ok p None why f e g = cc
+checked_ok p (Some x) why f e g = let h : x ≡ f = cc in checked_some p f (sym e ∙ ap Some h)
+
+pub checked_err : {E : Type 0} (p : PointStore E) (answer : Option Figures) (why other : Refusal) → answer ≡ checked p → ok_or answer why ≡ Err other → (well_formed p ≡ false) × (other ≡ why)
+checked_err p None why other e g = (checked_none p (sym e), cc)
+checked_err p (Some x) why other e g = cc

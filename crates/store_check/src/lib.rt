@@ -16,7 +16,7 @@ pub use bounds::{bounds_hold, free_start_well};
 use label_check::labels_well_formed;
 use labels::{LabelManagers, LabelsFree};
 pub use points::places_distinct;
-pub use record::{Lengths, numbers_well, record_well};
+pub use record::{Lengths, lengths_of, numbers_well, record_well};
 use store_definitions::{Store, Tables};
 use table::points_well;
 pub use table::table_well;
@@ -32,14 +32,14 @@ pub struct Figures {
 pub fn check(s: Store, floats: usize, window: usize, tables: Tables) -> Option<Figures>
     ensures { result ≡ checked (point_store s (tables_lent floats window tables.entry)) }
 {
-    let lent = Lengths {
+    let lent = lengths_of(
         floats,
         window,
-        counts: tables.reference_count.len(),
-        places: tables.location.len(),
-        starts: tables.index_starts.len(),
-        ends: tables.index_ends.len(),
-    };
+        tables.reference_count,
+        tables.location,
+        tables.index_starts,
+        tables.index_ends,
+    );
     if !record_well(s, lent) {
         return None;
     }

@@ -1,5 +1,5 @@
 // The record's own clauses, its table of classes among them, and whether enough memory is lent.
-ghost use Rattle.std.specs.Prelude.{◌≡◌};
+ghost use Rattle.std.specs.Prelude.{◌≡◌, ◌<◌, ℕ, length, get_or};
 ghost use Rattle.store_check.specs.CheckLaws.{record_test, numbers_test};
 
 use crate::bounds::{bounds_hold, free_start_well};
@@ -18,6 +18,28 @@ pub struct Lengths {
     pub places: usize,
     pub starts: usize,
     pub ends: usize,
+}
+
+// That a count has sixteen bits is known here, where the slice is a parameter, and no longer of a field that holds it.
+pub fn lengths_of(
+    floats: usize,
+    window: usize,
+    reference_count: &[u16],
+    location: &[u16],
+    index_starts: &[u16],
+    index_ends: &[u16],
+) -> Lengths
+    ensures lengths { result ≡ record { floats = floats; window = window; counts = length reference_count.now; places = length location.now; starts = length index_starts.now; ends = length index_ends.now } }
+    ensures fit { (i : ℕ) → get_or reference_count.now i 0 < 65536 }
+{
+    Lengths {
+        floats,
+        window,
+        counts: reference_count.len(),
+        places: location.len(),
+        starts: index_starts.len(),
+        ends: index_ends.len(),
+    }
 }
 
 // All but the table of classes: without the call to its test this is short enough for the compiler to put into a caller.

@@ -1,5 +1,5 @@
 -- Each return is what its test says of well-formedness.
-use Rattle.std.proofs.Common.{arith, refl, sym, ◌∙◌}
+use Rattle.std.proofs.Common.{refl, sym, ◌∙◌}
 use Rattle.interval_store_manager.specs.MarkLaws.{unmarked, checked_some, checked_none}
 use Rattle.labels.specs.Lent.{labels_lent}
 use Rattle.label_check.specs.CheckedLaws.{label_capacity_other, slot_capacity_other, not_lent, labels_not_managed, slots_not_managed, labels_lent_lem, slots_lent, labels_fail, slots_fail, all_pass}
@@ -58,4 +58,4 @@ pub returns : goal.returns
 returns c =
     let lw = checked_some c.args.managers.label_manager c.args.tables.label_starts.now c.args.tables.label_ends.now c.in_ok-labels.labels (sym c.mark_free.ensures.is ∙ c.in_ok-labels.was) in
     let sw = checked_some c.args.managers.attribute_manager c.args.tables.attribute_starts.now c.args.tables.attribute_ends.now c.in_ok-slots.slots (sym c.mark_free-2.ensures.is ∙ c.in_ok-slots.was) in
-    all_pass c.args.classes.now c.args.capacity (labels_lent c.args.managers c.args.tables) c.mark_free.new.marks c.mark_free-2.new.marks c.labels_pass.new.sums (c.mark_free.ensures.marked lw.0) (c.mark_free-2.ensures.marked sw.0) lw.0 sw.0 c.if-managers-capacity.false c.if-managers-capacity-2.false (λ i. omega (arith, c.struct_known-1.given.zzz)) (sym c.tables_lent.ensures ∙ c.if-not-tables_lent.false) (sym c.labels_pass.ensures.is ∙ c.if-not-labels_pass.false) (c.labels_pass.ensures.summed c.if-not-labels_pass.false) (sym c.slots_pass.ensures ∙ c.if-not-slots_pass.false) c.in_ok-labels.labels c.in_ok-slots.slots lw.1 sw.1
+    all_pass c.args.classes.now c.args.capacity (labels_lent c.args.managers c.args.tables) c.mark_free.new.marks c.mark_free-2.new.marks c.labels_pass.new.sums (c.mark_free.ensures.marked lw.0) (c.mark_free-2.ensures.marked sw.0) lw.0 sw.0 c.if-managers-capacity.false c.if-managers-capacity-2.false (c.labels_pass.ensures.fit c.if-not-labels_pass.false) (sym c.tables_lent.ensures ∙ c.if-not-tables_lent.false) (sym c.labels_pass.ensures.is ∙ c.if-not-labels_pass.false) (c.labels_pass.ensures.summed c.if-not-labels_pass.false) (sym c.slots_pass.ensures ∙ c.if-not-slots_pass.false) c.in_ok-labels.labels c.in_ok-slots.slots lw.1 sw.1

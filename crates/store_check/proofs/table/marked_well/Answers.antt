@@ -1,7 +1,7 @@
 -- Each way out is one of the laws of `TableLaws`.
 use native.Mathlib.Omega.{arith}
 use Rattle.store_laws.specs.BoundsLaws.{in_bounds, base_some}
-use mathlib.Core.Path.{sym, ◌∙◌}
+use mathlib.Core.Path.{refl, sym, ◌∙◌}
 use Rattle.store_check.proofs.TableLaws.{all_or_live, entries_decide, entries_pass, manager_fails}
 use Rattle.store_check.proofs.table.marked_well.Goals as goal
 
@@ -33,7 +33,7 @@ returns-else-entries_well c =
     let a = c.args in
     (entries_decide a.s a.reference_count.now a.location.now a.index_starts.now a.index_ends.now _ c.requires.0 _ _ c.mark_free.ensures c.place_limit-limit.ensures _ c.in-Some.is (sym c.entries_well.ensures ∙ c.if-entries_well.false), tt)
 
-pub returns-else-Some : goal.returns-else-Some
-returns-else-Some c =
+pub returns-in_default : goal.returns-in_default
+returns-in_default c =
     let a = c.args in
-    (manager_fails a.s a.reference_count.now a.location.now a.index_starts.now a.index_ends.now _ c.requires.0 _ _ c.mark_free.ensures c.place_limit-limit.ensures c.else-Some.is, tt)
+    (manager_fails a.s a.reference_count.now a.location.now a.index_starts.now a.index_ends.now _ c.requires.0 _ _ c.in_default.ensures c.place_limit-limit.ensures refl, tt)
