@@ -17,7 +17,12 @@ use store_rows::{no_record, open};
 use terms::{FloatBits, Refusal};
 
 // With labels off the table of label indices is not looked at.
-fn tables_decision(capacity: usize, store_labels: bool, indices: usize, labels: usize) -> Result<(), Refusal>
+fn tables_decision(
+    capacity: usize,
+    store_labels: bool,
+    indices: usize,
+    labels: usize,
+) -> Result<(), Refusal>
     ensures { decision_means result ≡ tables_asked capacity store_labels indices labels }
 {
     if indices < capacity {
