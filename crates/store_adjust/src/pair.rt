@@ -27,18 +27,13 @@ fn pair_test(
 {
     let index = PointIndex(insert_index);
     let label = LabelIndex(insert_label);
-    let raises = inc_test(s, reference_count, label_count, index, label);
-    match raises {
-        Err(why) => Err(why),
-        Ok(()) => {
-            if delete_index == NONE {
-                return Ok(());
-            }
-            let index = PointIndex(delete_index);
-            let label = LabelIndex(delete_label);
-            dec_test(s, reference_count, label_count, index, label)
-        }
+    inc_test(s, reference_count, label_count, index, label)?;
+    if delete_index == NONE {
+        return Ok(());
     }
+    let index = PointIndex(delete_index);
+    let label = LabelIndex(delete_label);
+    dec_test(s, reference_count, label_count, index, label)
 }
 
 // A pair that will be taken.
