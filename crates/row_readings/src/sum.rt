@@ -19,7 +19,12 @@ use terms::{FloatBits, PointIndex, Refusal};
 const LARGEST_WEIGHT: usize = 16_777_216;
 
 // One item, its index first.
-pub fn item_test(s: Store, reference_count: &[u16], index: usize, weight: usize) -> Result<(), Refusal>
+pub fn item_test(
+    s: Store,
+    reference_count: &[u16],
+    index: usize,
+    weight: usize,
+) -> Result<(), Refusal>
     ensures { decision_means result ≡ items_decided (point_store s (counts_alone reference_count.now [])) (weighted index weight ∷ []) }
 {
     let point = PointIndex(index);

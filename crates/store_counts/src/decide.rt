@@ -42,11 +42,8 @@ pub fn inc_test(
     ensures { decision_means result ≡ inc_test (point_store s (counts_alone reference_count.now label_count.now)) index.0 label.0 }
 {
     if point_in_use(s, reference_count, index) {
-        let labelled = labels::inc_decision(s.store_labels, s.capacity, label_count, label);
-        return match labelled {
-            Ok(()) => room_to_count(reference_count, index),
-            Err(r) => Err(r),
-        };
+        labels::inc_decision(s.store_labels, s.capacity, label_count, label)?;
+        return room_to_count(reference_count, index);
     }
     Err(Refusal::PointNotInUse)
 }
