@@ -11,7 +11,7 @@ ghost use Rattle.store_adjust.specs.Pairs.{pair_of, pair_test, pair_spec};
 
 use store_counts::{dec_accepted, dec_test, inc_accepted, inc_test};
 use store_definitions::{Done, DoneResult, Store};
-use terms::{LabelIndex, NONE, PointIndex};
+use terms::{LabelIndex, NONE, PointIndex, Refusal};
 
 // Whether inc and dec will be taken. The counts before the inc decide of the dec: they are above 0 where those after it are.
 fn pair_test(

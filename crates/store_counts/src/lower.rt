@@ -20,7 +20,7 @@ use terms::{EMPTY_PLACE, LabelIndex, PointIndex, Refusal};
 
 // One count less of a point; at 0 its index is released and its place emptied.
 fn lower_point(
-    manager: IntervalStoreManager,
+    mut manager: IntervalStoreManager,
     reference_count: &mut [u16],
     location: &mut [u16],
     index_starts: &mut [u16],
@@ -35,7 +35,8 @@ fn lower_point(
     reference_count[i] = count - 1;
     if count == 1 {
         location[i] = EMPTY_PLACE;
-        return manager.release_unchecked(index_starts, index_ends, i);
+        manager.release_unchecked(index_starts, index_ends, i);
+        return manager;
     }
     manager
 }

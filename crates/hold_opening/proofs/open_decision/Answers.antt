@@ -5,11 +5,11 @@ use Rattle.interval_store_manager.specs.Calls.{decision_means}
 use Rattle.hold_opening.specs.Openings.{asked_shape, asked_width, asked_tables}
 use Rattle.hold_opening.proofs.open_decision.Goals as goal
 
-pub returns-in-Refuse : goal.returns-in-Refuse
-returns-in-Refuse c = let a = c.args in asked_shape a.shape a.width a.indices a.labels (number c.in-Refuse.why) (sym c.shape_decision-shaped.ensures ∙ ap decision_means c.in-Refuse.is)
+pub returns-in-Err : goal.returns-in-Err
+returns-in-Err c = let a = c.args in asked_shape a.shape a.width a.indices a.labels (number c.in-Err.why) (sym c.shape_decision-shaped.ensures ∙ ap decision_means c.in-Err.is)
 
-pub returns-in-Refuse-wide : goal.returns-in-Refuse-wide
-returns-in-Refuse-wide c = let a = c.args in asked_width a.shape a.width a.indices a.labels (sym c.shape_decision-shaped.ensures ∙ ap decision_means c.in-Go.is) (number c.in-Refuse-wide.why) (sym c.width_decision-wide.ensures ∙ ap decision_means c.in-Refuse-wide.is)
+pub returns-in-Err-wide : goal.returns-in-Err-wide
+returns-in-Err-wide c = let a = c.args in asked_width a.shape a.width a.indices a.labels (sym c.shape_decision-shaped.ensures ∙ ap decision_means c.in-Ok.is) (number c.in-Err-wide.why) (sym c.width_decision-wide.ensures ∙ ap decision_means c.in-Err-wide.is)
 
-pub returns-in-Go-wide : goal.returns-in-Go-wide
-returns-in-Go-wide c = let a = c.args in c.tables_decision.ensures ∙ asked_tables a.shape a.width a.indices a.labels (sym c.shape_decision-shaped.ensures ∙ ap decision_means c.in-Go.is) (sym c.width_decision-wide.ensures ∙ ap decision_means c.in-Go-wide.is)
+pub returns-in-Ok-wide : goal.returns-in-Ok-wide
+returns-in-Ok-wide c = let a = c.args in c.tables_decision.ensures ∙ asked_tables a.shape a.width a.indices a.labels (sym c.shape_decision-shaped.ensures ∙ ap decision_means c.in-Ok.is) (sym c.width_decision-wide.ensures ∙ ap decision_means c.in-Ok-wide.is)
