@@ -15,7 +15,7 @@ use crate::rise::live_rise;
 use crate::steady::steady;
 use class_table::table_allowed;
 use label_check::labels_well_formed;
-use labels::{LabelManagers, LabelsFree};
+use labels::{LabelManagers, LabelTables, LabelsFree};
 use store_check::{Figures, Lengths, numbers_well, places_distinct, table_well};
 use store_definitions::Store;
 
@@ -159,11 +159,7 @@ pub fn store_well(
                     label_manager,
                     attribute_manager,
                 };
-                let half = labels_well_formed(
-                    s.store_labels,
-                    &s.classes,
-                    s.capacity,
-                    managers,
+                let tables = LabelTables {
                     labels,
                     label_attributes,
                     label_count,
@@ -173,15 +169,33 @@ pub fn store_well(
                     attribute_count,
                     attribute_starts,
                     attribute_ends,
-                );
-                let free = half.free;
+                };
+                if let Some(free) = labels_well_formed(
+                    s.store_labels,
+                    &s.classes,
+                    s.capacity,
+                    managers,
+                    tables,
+                ) {
+                    return StoreListed {
+                        ok: true,
+                        figures: Figures {
+                            live: points.live,
+                            free,
+                        },
+                        listed: points.listed,
+                    };
+                }
                 return StoreListed {
-                    ok: half.ok,
+                    ok: false,
                     figures: Figures {
-                        live: points.live,
-                        free,
+                        live: 0,
+                        free: LabelsFree {
+                            labels: 0,
+                            slots: 0,
+                        },
                     },
-                    listed: points.listed,
+                    listed: false,
                 };
             }
             return StoreListed {

@@ -1,17 +1,20 @@
 -- Laws of the whole check: what each of its tests says of well-formedness.
-use Rattle.std.specs.Prelude.{ℕ, ◌≤◌, List, Bool, true, false, ◌≡◌, Some, None, length}
+use Rattle.std.specs.Prelude.{ℕ, ◌≤◌, List, Bool, true, false, ◌≡◌, Option, Some, None, cond, refl, length}
 use Rattle.std.proofs.Common.{arith, sym, ◌∙◌, ap}
+use Rattle.std.proofs.lemmas.Option.{cond_some, none-some}
+use Rattle.labels.specs.declared.LabelsFree.{LabelsFree}
 use Rattle.terms.specs.Below.{fails, every_below}
 use Rattle.interval_store_manager.specs.WellFormed.{well_formed}
 use Rattle.interval_store_manager.specs.Intervals.{free_number}
 use Rattle.interval_store_manager.specs.MarkLaws.{marks_count}
 use Rattle.interval_store_manager.specs.Sound as manager
 use Rattle.labels.specs.Counted.{free_indices}
-use Rattle.labels.specs.Labels.{Labels, label_count_at, tables_lent, labels_well}
+use Rattle.labels.specs.Labels.{Labels, label_count_at, tables_lent, labels_well, labels_ok}
+use Rattle.labels.specs.Forms.{FreeOf}
 use Rattle.labels.specs.Sound.{Sound, sound, tables_lent_lem, tables_lent_make, lent_of}
 use Rattle.label_check.specs.Checks.{label_passes, slot_fits, Summed, MarksOf, labels_pass, slots_fit, passed}
 use Rattle.label_check.specs.CheckLaws.{LabelsLent, SlotsLent}
-use Rattle.label_check.specs.Checked.{half_checked}
+use Rattle.label_check.specs.Checked.{free_in, half_checked, labels_checked}
 
 -- a test that fails cannot hold
 clash : {b : Bool} → b ≡ true → b ≡ false → ⊥
@@ -90,3 +93,20 @@ module _ (classes : List ℕ) (c : ℕ) (l : Labels) where
   unfolding half_checked
   all_pass label_marks slot_marks sums lm sm lw sw lc sc few t p e f labels slots a b =
       rw (passed classes c l label_marks slot_marks sums lm sm lw sw lc sc few (most lw lc) t p e f, a, b)
+
+-- what an answer says of well-formedness, and of how many are free
+none_if : {A : Type 0} (b : Bool) (x : A) → None ≡ cond b (Some x) None → false ≡ b
+none_if true x e = absurd (none-some x e)
+none_if false x e = refl
+
+pub found : (on : Bool) (classes : List ℕ) (c : ℕ) (l : Labels) (free : LabelsFree) → Some free ≡ labels_checked on classes c l → (true ≡ labels_ok on classes c l) × (on ≡ true → FreeOf free l)
+unfolding half_checked
+found true classes c l free e =
+    let p = cond_some (labels_well classes c l) (free_in l) free (sym e) in
+    (sym p.0, λ q. record { labels = ap (λ (f : LabelsFree). f.labels) (sym p.1); slots = ap (λ (f : LabelsFree). f.slots) (sym p.1) })
+found false classes c l free e = (refl, λ q. absurd (let z : ◌≡◌ {A = ℕ} 0 1 = cc in omega arith))
+
+pub not_found : (on : Bool) (classes : List ℕ) (c : ℕ) (l : Labels) → None ≡ labels_checked on classes c l → false ≡ labels_ok on classes c l
+unfolding half_checked
+not_found true classes c l e = none_if (labels_well classes c l) (free_in l) e
+not_found false classes c l e = absurd (none-some _ e)

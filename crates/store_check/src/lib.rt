@@ -15,7 +15,7 @@ mod table;
 
 pub use bounds::{bounds_hold, free_start_well};
 use label_check::labels_well_formed;
-use labels::{LabelManagers, LabelsFree};
+use labels::{LabelManagers, LabelTables, LabelsFree};
 pub use points::places_distinct;
 pub use record::{Lengths, numbers_well, record_well};
 use store_definitions::Store;
@@ -74,11 +74,7 @@ pub fn check(
                 label_manager,
                 attribute_manager,
             };
-            let half = labels_well_formed(
-                s.store_labels,
-                &s.classes,
-                s.capacity,
-                managers,
+            let tables = LabelTables {
                 labels,
                 label_attributes,
                 label_count,
@@ -88,15 +84,22 @@ pub fn check(
                 attribute_count,
                 attribute_starts,
                 attribute_ends,
-            );
-            let free = half.free;
-            return StoreChecked {
-                ok: half.ok,
-                figures: Figures {
-                    live: points.live,
-                    free,
-                },
             };
+            if let Some(free) = labels_well_formed(
+                s.store_labels,
+                &s.classes,
+                s.capacity,
+                managers,
+                tables,
+            ) {
+                return StoreChecked {
+                    ok: true,
+                    figures: Figures {
+                        live: points.live,
+                        free,
+                    },
+                };
+            }
         }
     }
     StoreChecked {
