@@ -59,22 +59,13 @@ fn shape_decision(shape: Shape) -> Result<(), Refusal>
 }
 
 // The shape, then the width, then the two tables; the rest of the memory is the store's.
+#[tactic(auto, unfolding(crate::specs::Openings::open_asked))]
 fn open_decision(shape: Shape, width: usize, indices: usize, labels: usize) -> Result<(), Refusal>
     ensures { decision_means result ≡ open_asked shape width indices labels }
 {
-    let shaped = shape_decision(shape);
-    match shaped {
-        Err(why) => Err(why),
-        Ok(()) => {
-            let wide = width_decision(width, shape.capacity);
-            match wide {
-                Err(why) => Err(why),
-                Ok(()) => {
-                    tables_decision(shape.capacity, shape.store_labels, indices, labels)
-                }
-            }
-        }
-    }
+    shape_decision(shape)?;
+    width_decision(width, shape.capacity)?;
+    tables_decision(shape.capacity, shape.store_labels, indices, labels)
 }
 
 // What a refused opening gives in place of a record.
