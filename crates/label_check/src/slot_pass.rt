@@ -51,6 +51,7 @@ fn classes_differ(capacity: usize, live: usize, attributes: &[u8], attribute_cou
     let mut seen = [false; 256];
     let mut met = false;
     let mut found: usize = 0;
+    // Kept: the loop counts the live slots that it meets, and ends with the last; a `for` over the slots would need a `break` beside it.
     let mut s = 0;
     while found < live {
         let count = attribute_count[s];

@@ -3,7 +3,7 @@ use Rattle.std.specs.Prelude.{ℕ, ◌+◌, ◌≡◌}
 use Rattle.terms.specs.declared.Refusal.{Refusal}
 use Rattle.terms.specs.declared.Refusal.TheVariants.{FloatSpaceFull}
 use Rattle.placement_rows.specs.declared.laying.LaidRow.{LaidRow}
-use Rattle.labels.specs.declared.TakenLabel.{TakenLabel}
+use Rattle.store_add.specs.declared.take.TakenLabel.{TakenLabel}
 use Rattle.store_definitions.specs.declared.Store.{Store}
 use Rattle.store_definitions.specs.declared.Added.TheVariants.{Kept, Waiting, Refused}
 use Rattle.store_definitions.specs.Memory.{Memory, point_store}

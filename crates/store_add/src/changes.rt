@@ -4,9 +4,8 @@ ghost use Rattle.std.specs.Prelude.{◌≡◌};
 ghost use Rattle.store_add.specs.Answering.{SequenceOpen, changed, unchanged_add, waited_add, full_add, kept_add};
 
 use crate::room::Extent;
-use crate::take::TakenIndex;
+use crate::take::{TakenIndex, TakenLabel};
 use interval_store_manager::IntervalStoreManager;
-use labels::TakenLabel;
 use placement_rows::LaidRow;
 use store_definitions::{Added, Kept, Store};
 use terms::{PointIndex, Refusal};

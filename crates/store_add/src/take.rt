@@ -6,10 +6,17 @@ ghost use Rattle.store_add.specs.Pieces.{managers_of, label_for, grown_table, gr
 ghost use Rattle.store_add.specs.Requires.{Labelled, Growable, Takeable, IndexReady};
 
 use interval_store_manager::IntervalStoreManager;
-use labels::{LabelManagers, LabelsFree, TakenLabel, take_label};
+use labels::{LabelManagers, LabelTaking, LabelsFree, take_label};
 use placement_rows::{grow_table, grown_length};
 use store_definitions::Store;
 use terms::{LabelIndex, NONE};
+
+// A label taken, with the managers after it.
+#[derive(Clone, Copy)]
+pub struct TakenLabel {
+    pub label: LabelIndex,
+    pub managers: LabelManagers,
+}
 
 // An index taken, with how many remain free and its manager after it.
 #[derive(Clone, Copy)]
@@ -39,15 +46,12 @@ pub fn label_for(
 {
     let label_manager = s.label_manager;
     let attribute_manager = s.attribute_manager;
-    let managers = LabelManagers {
+    let mut managers = LabelManagers {
         label_manager,
         attribute_manager,
     };
     if s.store_labels {
-        return take_label(
-            &s.classes,
-            s.capacity,
-            managers,
+        let mut tables = LabelTaking {
             labels,
             label_attributes,
             label_count,
@@ -57,9 +61,16 @@ pub fn label_for(
             attribute_count,
             attribute_starts,
             attribute_ends,
+        };
+        let label = take_label(
+            &s.classes,
+            s.capacity,
+            &mut managers,
+            &mut tables,
             code,
             free,
         );
+        return TakenLabel { label, managers };
     }
     TakenLabel {
         label: LabelIndex(NONE),

@@ -10,7 +10,7 @@ use Rattle.terms.specs.Refusals.{number}
 use Rattle.interval_store_manager.specs.Calls.{go, decision_means}
 use Rattle.labels.specs.Counted.{Counted, counted, raised, lowered}
 use Rattle.labels.specs.Decisions.{inc_decided, dec_decided}
-use Rattle.labels.specs.Forms.{InUse}
+use Rattle.labels.specs.Forms.{InUse, LiveLabel}
 use Rattle.labels.specs.Labels.{Labels, labels_well, label_raised, label_lowered}
 use Rattle.labels.specs.Sound.{sound_make as labels_sound_make}
 use Rattle.store_definitions.specs.Memory.{PointStore, point_store}
@@ -24,12 +24,6 @@ use Rattle.store_laws.specs.DecisionLaws.{both_go, not_refused, touch_go, inc_la
 use Rattle.store_counts.specs.Tables.{counts_alone, emptied}
 use Rattle.store_counts.specs.TestLaws.{inc_test_alone, dec_test_alone}
 use Rattle.store_counts.specs.ReadingLaws.{well}
-
--- a label whose count may fall
-pub record LabelReady (classes : List ℕ) (capacity : ℕ) (h : Labels) (l : ℕ) : Type 0 where
-  pub well : labels_well classes capacity h ≡ true
-  pub below : l < capacity
-  pub counted : 0 < get_or h.label_table.counts l 0
 
 less : (k : ℕ) → k ≤ 65535 → (k ≡ 65535 → ⊥) → k < 65535
 less k a b = omega arith
@@ -64,14 +58,14 @@ module _ {E : Type 0} (p : PointStore E) where
       pub inc_room : get_or counts i 0 < 65536 → get_or counts i 0 < 65535
       inc_room h = less (get_or counts i 0) (omega arith) (eqb-false (get_or counts i 0) 65535 (not_refused _ 7 inc_parts.1.1))
 
-      pub inc_label_ready : p.header.store_labels ≡ true → LabelReady p.header.classes p.header.capacity (label_half p) l × (get_or p.memory.label_count l 0 < 65535)
+      pub inc_label_ready : p.header.store_labels ≡ true → LiveLabel p.header.classes p.header.capacity (label_half p) l × (get_or p.memory.label_count l 0 < 65535)
       inc_label_ready on =
           let w = (sound p f).labels on in
           let u = inc_label_go p.header.capacity p.memory.label_count l (rw on at inc_parts.1.0) in (
             record {
               well = labels_sound_make p.header.classes p.header.capacity (label_half p) w;
               below = u.0.below;
-              counted = u.0.counted;
+              live = u.0.counted;
             },
             less (get_or p.memory.label_count l 0) (w.count_most l u.0.below) u.1,
           )
@@ -87,13 +81,13 @@ module _ {E : Type 0} (p : PointStore E) where
           let u = touch_go p i dec_parts.0 in
           (record { well = w.points; below = u.0; live = u.1 }, omega (arith, w.rows.places_lent, w.table_within, u.0))
 
-      pub dec_label_ready : p.header.store_labels ≡ true → LabelReady p.header.classes p.header.capacity (label_half p) l
+      pub dec_label_ready : p.header.store_labels ≡ true → LiveLabel p.header.classes p.header.capacity (label_half p) l
       dec_label_ready on =
           let u = dec_label_go p.header.capacity p.memory.label_count l (rw on at dec_parts.1) in
           record {
             well = labels_sound_make p.header.classes p.header.capacity (label_half p) ((sound p f).labels on);
             below = u.below;
-            counted = u.counted;
+            live = u.counted;
           }
 
   module _ (i l : ℕ) where

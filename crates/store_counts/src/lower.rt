@@ -13,7 +13,7 @@ ghost use Rattle.store_counts.specs.Tables.{emptied};
 
 use crate::decide::dec_test;
 use interval_store_manager::IntervalStoreManager;
-use labels::{LabelManagers, dec_label};
+use labels::{LabelLowering, LabelManagers, dec_label};
 use store_check::check;
 use store_definitions::{Done, DoneResult, Store};
 use terms::{EMPTY_PLACE, LabelIndex, PointIndex, Refusal};
@@ -78,14 +78,11 @@ pub fn dec_accepted(
     if s.store_labels {
         let label_manager = s.label_manager;
         let attribute_manager = s.attribute_manager;
-        let managers = LabelManagers {
+        let mut managers = LabelManagers {
             label_manager,
             attribute_manager,
         };
-        let lowered = dec_label(
-            &s.classes,
-            s.capacity,
-            managers,
+        let mut tables = LabelLowering {
             labels,
             label_attributes,
             label_count,
@@ -95,10 +92,8 @@ pub fn dec_accepted(
             attribute_count,
             attribute_starts,
             attribute_ends,
-            label,
-        );
-        let label_after = lowered.label_manager;
-        let attribute_after = lowered.attribute_manager;
+        };
+        dec_label(&s.classes, s.capacity, &mut managers, &mut tables, label);
         return Store {
             dimensions: s.dimensions,
             shingle_size: s.shingle_size,
@@ -110,8 +105,8 @@ pub fn dec_accepted(
             start_free_region: s.start_free_region,
             next_sequence_index: s.next_sequence_index,
             index_manager: index_after,
-            label_manager: label_after,
-            attribute_manager: attribute_after,
+            label_manager: managers.label_manager,
+            attribute_manager: managers.attribute_manager,
             classes: s.classes,
         };
     }

@@ -9,7 +9,7 @@ ghost use Rattle.store_definitions.specs.WellFormed.{well_formed};
 ghost use Rattle.store_check.specs.Tables.{tables};
 
 use crate::decide::inc_test;
-use labels::{LabelManagers, inc_label};
+use labels::{LabelManagers, LabelRaising, inc_label};
 use store_check::check;
 use store_definitions::{Done, DoneResult, Store};
 use terms::{LabelIndex, PointIndex, Refusal};
@@ -47,10 +47,7 @@ pub fn inc_accepted(
             label_manager,
             attribute_manager,
         };
-        inc_label(
-            &s.classes,
-            s.capacity,
-            managers,
+        let mut tables = LabelRaising {
             labels,
             label_attributes,
             label_count,
@@ -60,8 +57,8 @@ pub fn inc_accepted(
             attribute_count,
             attribute_starts,
             attribute_ends,
-            label,
-        );
+        };
+        inc_label(&s.classes, s.capacity, managers, &mut tables, label);
     }
 }
 

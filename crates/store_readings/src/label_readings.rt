@@ -6,27 +6,26 @@ ghost use Rattle.store_definitions.specs.LabelReadings.{told, label_spec, attrib
 ghost use Rattle.store_definitions.specs.Lent.{held};
 ghost use Rattle.store_definitions.specs.Memory.{point_store};
 
-use labels::{LabelRead, VectorRead};
 use store_check::check;
 use store_definitions::{Done, Number, Store};
 use terms::{FloatBits, LabelIndex, Refusal};
 
 // The label half's answer as the store's.
-fn number_read(read: LabelRead) -> Number
+fn number_read(read: Result<usize, Refusal>) -> Number
     ensures { number_means result ≡ told (label_read_means read) }
 {
     match read {
-        LabelRead::Is(n) => Number::Is(n),
-        LabelRead::Refused(why) => Number::Refused(why),
+        Ok(n) => Number::Is(n),
+        Err(why) => Number::Refused(why),
     }
 }
 
-fn vector_read(read: VectorRead) -> Done
+fn vector_read(read: Result<(), Refusal>) -> Done
     ensures { done_means result ≡ told (vector_read_means read) }
 {
     match read {
-        VectorRead::Written => Done::Done,
-        VectorRead::Refused(why) => Done::Refused(why),
+        Ok(()) => Done::Done,
+        Err(why) => Done::Refused(why),
     }
 }
 
