@@ -63,6 +63,7 @@ fn compact_whole(
 }
 
 // Answers the new free start. Only the first `table_length` entries of the table are points.
+#[tactic(auto, unfolding(crate::specs::Compactable::compacted_table))]
 pub fn compact(
     store: &mut [FloatBits],
     location: &mut [u16],

@@ -7,6 +7,7 @@ use super::words::copy_from;
 use terms::FloatBits;
 
 // The row's last words come first: two straight copies.
+#[tactic(auto, using(crate::proofs::Runs::turned_copied))]
 fn copy_turned(row: &[FloatBits], out: &mut [FloatBits], last: usize, others: usize)
     requires { (length row.now ≡ last + others) × (length out.old ≡ last + others) }
     ensures { out.new ≡ turned (last + others) last row.now }
@@ -17,6 +18,7 @@ fn copy_turned(row: &[FloatBits], out: &mut [FloatBits], last: usize, others: us
 
 impl Shape {
     // How many of a row's last words its copy begins with.
+    #[tactic(auto, unfolding(placement::specs::Copying::turn))]
     pub fn turn_at(self, place: usize) -> usize
         requires { (0 < self.dimensions) × (place * self.base < 2 ^ 64) }
         ensures { (result ≡ turn self.rotation self.dimensions self.base place) × (result ≤ self.dimensions) }
@@ -27,6 +29,7 @@ impl Shape {
         0
     }
 
+    #[tactic(auto, using(crate::proofs::Runs::copy_turned))]
     pub fn copy(self, store: &[FloatBits], out: &mut [FloatBits], place: usize)
         requires { (0 < self.dimensions) × (length out.old ≡ self.dimensions) × (place * self.base + self.dimensions ≤ length store.now) }
         ensures { out.new ≡ copied self.rotation self.dimensions self.base place store.now }

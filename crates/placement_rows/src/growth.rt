@@ -5,6 +5,7 @@ ghost use Rattle.placement.specs.InPlace.{filled};
 
 use terms::{EMPTY_PLACE, FloatBits};
 
+#[tactic(auto, unfolding(placement::specs::Growth::grown))]
 pub fn grown_length(length: usize, least: usize, limit: usize) -> usize
     requires { length ≤ limit }
     ensures { result ≡ grown length least limit }

@@ -14,6 +14,7 @@ pub fn copy_from(words: &mut [FloatBits], at: usize, from: &[FloatBits])
 }
 
 // Where nothing moves there is nothing to do.
+#[tactic(auto, using(crate::proofs::Parts::copy_still))]
 pub fn copy_down(words: &mut [FloatBits], at: usize, from: usize, count: usize)
     requires { (at ≤ from) × (from + count ≤ length words.old) }
     ensures { words.new ≡ copied_within at from count words.old }

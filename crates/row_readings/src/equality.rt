@@ -14,6 +14,7 @@ use store_definitions::{Equality, Store};
 use terms::{FloatBits, PointIndex, Refusal};
 
 // A copy begins with its row's last t words, so the row is compared in two parts, where it stands.
+#[tactic(auto, using(crate::specs::EqualityLaws::turned_equal))]
 fn turned_equals(row: &[FloatBits], point: &[FloatBits], dimensions: usize, t: usize) -> bool
     requires { (length row.now ≡ dimensions) × (length point.now ≡ dimensions) × (t ≤ dimensions) }
     ensures { result ≡ all_equal words_equal (turned dimensions t row.now) point.now }
@@ -24,6 +25,7 @@ fn turned_equals(row: &[FloatBits], point: &[FloatBits], dimensions: usize, t: u
     first & second
 }
 
+#[tactic(auto, using(crate::specs::EqualityLaws::copied_part))]
 pub fn copy_equals(store: &[FloatBits], point: &[FloatBits], shape: Shape, place: usize) -> bool
     requires { (0 < shape.dimensions) × (length point.now ≡ shape.dimensions) × (place * shape.base + shape.dimensions ≤ length store.now) }
     ensures { result ≡ all_equal words_equal (copied shape.rotation shape.dimensions shape.base place store.now) point.now }

@@ -10,6 +10,7 @@ use terms::Refusal;
 
 const LARGEST_LOOK_AHEAD: usize = 65535;
 
+#[tactic(auto, unfolding(store_definitions::specs::IndexLists::value_limit))]
 fn value_limit(s: Store) -> usize
     requires { Shingled s }
     ensures { result ≡ value_limit s }
@@ -21,6 +22,7 @@ fn value_limit(s: Store) -> usize
 }
 
 // Which value is too large is not asked, so there is no early exit.
+#[tactic(auto, using(crate::proofs::ListTurns::below_turn, crate::proofs::ListTurns::below_end))]
 fn values_below(values: &[usize], limit: usize) -> bool
     ensures { result ≡ values_below limit values.now }
 {

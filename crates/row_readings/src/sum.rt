@@ -56,6 +56,7 @@ pub fn clear(out: &mut [f32])
 }
 
 // One item that was judged: its row as it is stored, times its weight, is added to the sums.
+#[tactic(auto, using(crate::specs::SumLaws::row_read))]
 pub fn add_item(
     s: Store,
     store: &[FloatBits],
@@ -75,6 +76,7 @@ pub fn add_item(
     add_scaled(out, &store[start..end], weight);
 }
 
+#[tactic(auto, using(crate::specs::SumLaws::next_added, crate::specs::SumLaws::none_added))]
 fn add_items(s: Store, store: &[FloatBits], location: &[u16], items: &[[usize; 2]], out: &mut [f32])
     requires { (length out.old ≡ s.dimensions) × AllAddable s (length store.now) location.now items.now }
     ensures { out.new ≡ summed add_scaled (point_store s (rows_alone store.now [] location.now)) (weightings items.now) out.old }

@@ -12,6 +12,7 @@ use store_definitions::{Done, DoneResult, Store};
 use terms::{FloatBits, Refusal};
 
 // Answers the new free start, which the caller writes into the record.
+#[tactic(auto, using(crate::specs::Compacting::compacted_rows_lem))]
 pub fn compact_unchecked(s: Store, store: &mut [FloatBits], location: &mut [u16]) -> usize
     requires { RowsReady s store.old location.old }
     ensures { rows store.new location.new result s.store_length ≡ compacted_rows 0 s (rows store.old location.old s.start_free_region s.store_length) }

@@ -12,6 +12,7 @@ use store_definitions::{Done, Store};
 use terms::{FloatBits, PointIndex, Refusal};
 
 // Of a store whose live points stand within its floats.
+#[tactic(auto, using(crate::specs::Copying::past_table, crate::specs::Copying::not_counted, crate::specs::Copying::other_length, crate::specs::Copying::row_copied, terms::specs::Below::positive))]
 pub fn copy_unchecked(
     s: Store,
     store: &[FloatBits],

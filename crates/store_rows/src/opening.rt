@@ -17,6 +17,7 @@ use store_definitions::{Done, DoneResult, Shape, Store};
 use terms::{FloatBits, Refusal};
 
 // With labels off none is asked for.
+#[tactic(auto, unfolding(crate::specs::Openings::labels_lent_if))]
 fn labels_lent(
     store_labels: bool,
     capacity: usize,
