@@ -13,12 +13,6 @@ const COLUMNS: usize = 6;
 
 const LINE_BYTES: usize = 19;
 
-fn wide(x: u16) -> usize
-    ensures { result ≡ x }
-{
-    x as usize
-}
-
 // The line of one index.
 fn put_point(text: &mut [u8], at: usize, index: usize, count: usize, place: usize)
     requires { at + 19 ≤ length text.old }
@@ -33,15 +27,13 @@ fn write_lines(table_length: usize, reference_count: &[u16], location: &[u16], t
     ensures { text.new ≡ put 0 (page_text table_length reference_count.now location.now) text.old }
 {
     let mut end = 0;
-    let mut i = 0;
-    while i < table_length {
-        let count = wide(reference_count[i]);
+    for i in 0..table_length {
+        let count = reference_count[i] as usize;
         if 0 < count {
-            let place = wide(location[i]);
+            let place = location[i] as usize;
             put_point(text, end, i, count, place);
             end += LINE_BYTES;
         }
-        i += 1;
     }
 }
 
