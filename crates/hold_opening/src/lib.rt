@@ -11,71 +11,61 @@ ghost use Rattle.store_definitions.specs.Answers.{done_means};
 ghost use Rattle.hold_opening.specs.Openings.{opened_as, shape_asked, width_asked, tables_asked, open_asked};
 
 use hold_definitions::{Hold, HoldDoneResult};
-use interval_store_manager::Decision;
 use store_check::bounds_hold;
 use store_definitions::{Done, DoneResult, Shape};
 use store_rows::{no_record, open};
 use terms::{FloatBits, Refusal};
 
 // With labels off the table of label indices is not looked at.
-fn tables_decision(capacity: usize, store_labels: bool, indices: usize, labels: usize) -> Decision
+fn tables_decision(capacity: usize, store_labels: bool, indices: usize, labels: usize) -> Result<(), Refusal>
     ensures { decision_means result ≡ tables_asked capacity store_labels indices labels }
 {
     if indices < capacity {
-        return Decision::Refuse(Refusal::IllFormed);
+        return Err(Refusal::IllFormed);
     }
     if store_labels {
         if labels < capacity {
-            return Decision::Refuse(Refusal::IllFormed);
+            return Err(Refusal::IllFormed);
         }
     }
-    Decision::Go
+    Ok(())
 }
 
-fn width_decision(width: usize, capacity: usize) -> Decision
+fn width_decision(width: usize, capacity: usize) -> Result<(), Refusal>
     ensures { decision_means result ≡ width_asked width capacity }
 {
     if width < 1 {
-        return Decision::Refuse(Refusal::HoldWidth);
+        return Err(Refusal::HoldWidth);
     }
     if capacity <= width {
-        return Decision::Refuse(Refusal::HoldWidth);
+        return Err(Refusal::HoldWidth);
     }
-    Decision::Go
+    Ok(())
 }
 
-fn shape_decision(shape: Shape) -> Decision
+fn shape_decision(shape: Shape) -> Result<(), Refusal>
     ensures { decision_means result ≡ shape_asked shape }
 {
     if bounds_hold(shape.dimensions, shape.shingle_size, shape.capacity) {
         if shape.initial_capacity < 1 {
-            return Decision::Refuse(Refusal::Shape);
+            return Err(Refusal::Shape);
         }
         if shape.capacity < shape.initial_capacity {
-            return Decision::Refuse(Refusal::Shape);
+            return Err(Refusal::Shape);
         }
-        return Decision::Go;
+        return Ok(());
     }
-    Decision::Refuse(Refusal::Shape)
+    Err(Refusal::Shape)
 }
 
 // The shape, then the width, then the two tables; the rest of the memory is the store's.
-fn open_decision(shape: Shape, width: usize, indices: usize, labels: usize) -> Decision
+#[tactic(auto, unfolding(crate::specs::Openings::open_asked))]
+fn open_decision(shape: Shape, width: usize, indices: usize, labels: usize) -> Result<(), Refusal>
     ensures { decision_means result ≡ open_asked shape width indices labels }
 {
-    let shaped = shape_decision(shape);
-    match shaped {
-        Decision::Refuse(why) => Decision::Refuse(why),
-        Decision::Go => {
-            let wide = width_decision(width, shape.capacity);
-            match wide {
-                Decision::Refuse(why) => Decision::Refuse(why),
-                Decision::Go => {
-                    tables_decision(shape.capacity, shape.store_labels, indices, labels)
-                }
-            }
-        }
-    }
+    shape_decision(shape)?;
+    width_decision(width, shape.capacity)?;
+    tables_decision(shape.capacity, shape.store_labels, indices, labels)
 }
 
 // What a refused opening gives in place of a record.
@@ -143,14 +133,14 @@ pub fn open_hold(
 {
     let d = open_decision(shape, width, held_indices.len(), held_labels.len());
     match d {
-        Decision::Refuse(why) => {
+        Err(why) => {
             let none = no_hold();
             HoldDoneResult {
                 hold: none,
                 answer: Done::Refused(why),
             }
         }
-        Decision::Go => {
+        Ok(()) => {
             let opened = open(
                 shape,
                 store,

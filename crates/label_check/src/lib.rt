@@ -100,8 +100,8 @@ fn label_half_well_formed(
             attribute_ends,
             &mut slot_marks,
         );
-        if label_check.ok {
-            if slot_check.ok {
+        if let Some(free_labels) = label_check {
+            if let Some(free_slots) = slot_check {
                 let mut sums = [0u32; 1024];
                 if labels_pass(
                     classes,
@@ -115,7 +115,7 @@ fn label_half_well_formed(
                 ) {
                     let ok = slots_pass(
                         capacity,
-                        slot_check.free,
+                        free_slots,
                         attributes,
                         attribute_count,
                         &slot_marks,
@@ -124,8 +124,8 @@ fn label_half_well_formed(
                     return LabelsChecked {
                         ok,
                         free: LabelsFree {
-                            labels: label_check.free,
-                            slots: slot_check.free,
+                            labels: free_labels,
+                            slots: free_slots,
                         },
                     };
                 }

@@ -8,7 +8,7 @@ ghost use Rattle.labels.specs.Opening.{cleared, labels_opened, Openable};
 ghost use Rattle.label_opening.specs.OpeningLaws.{LabelsOpenable};
 ghost use Rattle.labels.specs.Forms.{held};
 
-use interval_store_manager::{IntervalStoreManager, Opened};
+use interval_store_manager::IntervalStoreManager;
 use labels::LabelManagers;
 
 fn clear_u8(xs: &mut [u8], n: usize)
@@ -51,8 +51,8 @@ fn open_manager(capacity: usize, starts: &mut [u16], ends: &mut [u16]) -> Interv
 {
     let answer = IntervalStoreManager::new(capacity, starts, ends);
     match answer {
-        Opened::Manager(m) => m,
-        Opened::Refused(_) => IntervalStoreManager {
+        Ok(m) => m,
+        Err(_) => IntervalStoreManager {
             capacity,
             last_in_use: 0,
         },

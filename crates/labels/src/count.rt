@@ -36,7 +36,7 @@ pub fn inc_label(
 // One count less of a label index.
 fn lower_label(
     capacity: usize,
-    manager: IntervalStoreManager,
+    mut manager: IntervalStoreManager,
     label_count: &mut [u16],
     label_starts: &mut [u16],
     label_ends: &mut [u16],
@@ -48,7 +48,8 @@ fn lower_label(
     let count = label_count[i];
     label_count[i] = count - 1;
     if count == 1 {
-        return manager.release_unchecked(label_starts, label_ends, i);
+        manager.release_unchecked(label_starts, label_ends, i);
+        return manager;
     }
     manager
 }
@@ -56,7 +57,7 @@ fn lower_label(
 // One count less of a slot.
 fn lower_slot(
     capacity: usize,
-    manager: IntervalStoreManager,
+    mut manager: IntervalStoreManager,
     attribute_count: &mut [u32],
     attribute_starts: &mut [u16],
     attribute_ends: &mut [u16],
@@ -68,7 +69,8 @@ fn lower_slot(
     let labelled = attribute_count[slot];
     attribute_count[slot] = labelled - 1;
     if labelled == 1 {
-        return manager.release_unchecked(attribute_starts, attribute_ends, slot);
+        manager.release_unchecked(attribute_starts, attribute_ends, slot);
+        return manager;
     }
     manager
 }

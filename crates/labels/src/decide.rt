@@ -5,7 +5,7 @@ ghost use Rattle.labels.specs.Decisions.{in_use, code_decided, room_decided, inc
 
 use crate::classes::LARGEST_CODE;
 use crate::entry::entry_u16;
-use interval_store_manager::{Decision, IntervalStoreManager};
+use interval_store_manager::IntervalStoreManager;
 use terms::{LabelIndex, NONE, Refusal};
 
 // Document 01: 'inc of a point or label count at 65,535'.
@@ -29,27 +29,27 @@ pub fn label_in_use(
 }
 
 // Whether an add may carry this code.
-pub fn code_decision(store_labels: bool, code: usize) -> Decision
+pub fn code_decision(store_labels: bool, code: usize) -> Result<(), Refusal>
     ensures { decision_means result ≡ code_decided store_labels code }
 {
     if store_labels {
         if LARGEST_CODE < code {
-            return Decision::Refuse(Refusal::LabelCode);
+            return Err(Refusal::LabelCode);
         }
     }
-    Decision::Go
+    Ok(())
 }
 
 // Whether a kept add finds a label index.
-pub fn room_decision(store_labels: bool, label_manager: IntervalStoreManager) -> Decision
+pub fn room_decision(store_labels: bool, label_manager: IntervalStoreManager) -> Result<(), Refusal>
     ensures { decision_means result ≡ room_decided store_labels label_manager }
 {
     if store_labels {
         if label_manager.last_in_use == 0 {
-            return Decision::Refuse(Refusal::LabelsFull);
+            return Err(Refusal::LabelsFull);
         }
     }
-    Decision::Go
+    Ok(())
 }
 
 pub fn inc_decision(
@@ -57,19 +57,19 @@ pub fn inc_decision(
     capacity: usize,
     label_count: &[u16],
     label: LabelIndex,
-) -> Decision
+) -> Result<(), Refusal>
     ensures { decision_means result ≡ inc_decided store_labels capacity label_count.now label.0 }
 {
     if store_labels {
         if label_in_use(store_labels, capacity, label_count, label) {
             if entry_u16(label_count, label.0) == LARGEST_COUNT {
-                return Decision::Refuse(Refusal::CountFull);
+                return Err(Refusal::CountFull);
             }
-            return Decision::Go;
+            return Ok(());
         }
-        return Decision::Refuse(Refusal::LabelNotInUse);
+        return Err(Refusal::LabelNotInUse);
     }
-    Decision::Go
+    Ok(())
 }
 
 pub fn dec_decision(
@@ -77,17 +77,17 @@ pub fn dec_decision(
     capacity: usize,
     label_count: &[u16],
     label: LabelIndex,
-) -> Decision
+) -> Result<(), Refusal>
     ensures { decision_means result ≡ dec_decided store_labels capacity label_count.now label.0 }
 {
     if store_labels {
         if label_in_use(store_labels, capacity, label_count, label) {
-            return Decision::Go;
+            return Ok(());
         }
-        return Decision::Refuse(Refusal::LabelNotInUse);
+        return Err(Refusal::LabelNotInUse);
     }
     if label.0 == NONE {
-        return Decision::Go;
+        return Ok(());
     }
-    Decision::Refuse(Refusal::LabelNotInUse)
+    Err(Refusal::LabelNotInUse)
 }

@@ -37,7 +37,7 @@ fn class_slot(capacity: usize, attributes: &[u8], attribute_count: &[u32], class
 // A slot for the class, with one count more.
 fn take_slot(
     capacity: usize,
-    manager: IntervalStoreManager,
+    mut manager: IntervalStoreManager,
     attributes: &mut [u8],
     attribute_count: &mut [u32],
     attribute_starts: &mut [u16],
@@ -56,15 +56,11 @@ fn take_slot(
             manager,
         };
     }
-    let taken = manager.get_unchecked(attribute_starts, attribute_ends, free);
-    let slot = taken.given.index;
+    let given = manager.get_unchecked(attribute_starts, attribute_ends, free);
+    let slot = given.index;
     attributes[slot] = class;
     attribute_count[slot] = 1;
-    let after = taken.manager;
-    TakenSlot {
-        slot,
-        manager: after,
-    }
+    TakenSlot { slot, manager }
 }
 
 // A label index for the code, with its slot.
@@ -101,10 +97,9 @@ pub fn take_label(
     );
     let slot = s.slot;
     let attribute_manager = s.manager;
-    let index_manager = managers.label_manager;
-    let taken = index_manager.get_unchecked(label_starts, label_ends, free.labels);
-    let index = taken.given.index;
-    let label_manager = taken.manager;
+    let mut label_manager = managers.label_manager;
+    let given = label_manager.get_unchecked(label_starts, label_ends, free.labels);
+    let index = given.index;
     labels[index] = code as u8;
     label_attributes[index] = slot as u16;
     label_count[index] = 1;

@@ -1,8 +1,6 @@
 // A recorded call made on the proved manager, and its answer in the record's numbers.
-use interval_store_manager::{
-    ChangeResult, Changed, Emptiness, GetResult, Got, IntervalStoreManager, Number, Opened,
-};
-use terms::{Refusal, refusal_number};
+use interval_store_manager::IntervalStoreManager;
+use terms::Refusal;
 
 pub const NEW: usize = 0;
 
@@ -35,76 +33,49 @@ pub struct Top {
     pub end: usize,
 }
 
-fn refused(manager: IntervalStoreManager, why: Refusal) -> Made {
-    Made {
-        manager,
-        value: refusal_number(why) as usize,
-        answer: 0,
-    }
-}
-
-fn answered(manager: IntervalStoreManager, answer: usize) -> Made {
-    Made {
-        manager,
-        value: 0,
-        answer,
-    }
-}
-
-fn opened(m: IntervalStoreManager, o: Opened) -> Made {
-    match o {
-        Opened::Manager(manager) => answered(manager, 0),
-        Opened::Refused(why) => refused(m, why),
-    }
-}
-
-fn changed(r: ChangeResult) -> Made {
-    let m = r.manager;
-    let answer = r.answer;
+// A call's answer in the record's numbers, with the manager after it.
+fn answered(manager: IntervalStoreManager, answer: Result<usize, Refusal>) -> Made {
     match answer {
-        Changed::Done => answered(m, 0),
-        Changed::Refused(why) => refused(m, why),
-    }
-}
-
-fn got(r: GetResult) -> Made {
-    let m = r.manager;
-    let answer = r.answer;
-    match answer {
-        Got::Given(given) => answered(m, given.index),
-        Got::Refused(why) => refused(m, why),
-    }
-}
-
-fn read(m: IntervalStoreManager, n: Number) -> Made {
-    match n {
-        Number::Is(k) => answered(m, k),
-        Number::Refused(why) => refused(m, why),
-    }
-}
-
-fn told(m: IntervalStoreManager, e: Emptiness) -> Made {
-    match e {
-        Emptiness::Empty(b) => answered(m, b as usize),
-        Emptiness::Refused(why) => refused(m, why),
+        Ok(answer) => Made {
+            manager,
+            value: 0,
+            answer,
+        },
+        Err(why) => Made {
+            manager,
+            value: u64::from(why) as usize,
+            answer: 0,
+        },
     }
 }
 
 pub fn make(
-    m: IntervalStoreManager,
+    mut m: IntervalStoreManager,
     starts: &mut [u16],
     ends: &mut [u16],
     call: usize,
     argument: usize,
 ) -> Made {
     match call {
-        NEW => opened(m, IntervalStoreManager::new(argument, starts, ends)),
-        CHANGE_CAPACITY => changed(m.change_capacity(starts, ends, argument)),
-        GET => got(m.get(starts, ends)),
-        RELEASE => changed(m.release(starts, ends, argument)),
-        USED => read(m, m.used(starts, ends)),
-        IS_EMPTY => told(m, m.is_empty(starts, ends)),
-        GET_CAPACITY => read(m, m.get_capacity(starts, ends)),
+        NEW => match IntervalStoreManager::new(argument, starts, ends) {
+            Ok(manager) => answered(manager, Ok(0)),
+            Err(why) => answered(m, Err(why)),
+        },
+        CHANGE_CAPACITY => {
+            let answer = m.change_capacity(starts, ends, argument).map(|()| 0);
+            answered(m, answer)
+        }
+        GET => {
+            let answer = m.get(starts, ends).map(|given| given.index);
+            answered(m, answer)
+        }
+        RELEASE => {
+            let answer = m.release(starts, ends, argument).map(|()| 0);
+            answered(m, answer)
+        }
+        USED => answered(m, m.used(starts, ends)),
+        IS_EMPTY => answered(m, m.is_empty(starts, ends).map(|empty| empty as usize)),
+        GET_CAPACITY => answered(m, m.get_capacity(starts, ends)),
         _ => Made {
             manager: m,
             value: NO_CALL,

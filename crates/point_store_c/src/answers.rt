@@ -8,14 +8,13 @@ ghost use Rattle.point_store_c.specs.Records.{recorded};
 use crate::record::store_out;
 use placement::Laid;
 use store_definitions::{Added, AdjustResult, Adjusted, Done, Equality, Number};
-use terms::refusal_number;
 
 pub fn done_number(answer: Done) -> u64
     ensures { read result [] ≡ exported_reading [] (done_means answer) }
 {
     match answer {
         Done::Done => 0,
-        Done::Refused(why) => refusal_number(why),
+        Done::Refused(why) => u64::from(why),
     }
 }
 
@@ -23,7 +22,7 @@ pub fn number_out(answer: Number, number: &mut u64) -> u64
     ensures { read result (number.new ∷ []) ≡ exported_reading (number.old ∷ []) (number_means answer) }
 {
     match answer {
-        Number::Refused(why) => refusal_number(why),
+        Number::Refused(why) => u64::from(why),
         Number::Is(n) => {
             *number = n as u64;
             0
@@ -35,7 +34,7 @@ pub fn equality_out(answer: Equality, equal: &mut u64) -> u64
     ensures { read result (equal.new ∷ []) ≡ exported_reading (equal.old ∷ []) (equality_means answer) }
 {
     match answer {
-        Equality::Refused(why) => refusal_number(why),
+        Equality::Refused(why) => u64::from(why),
         Equality::Is(b) => {
             *equal = b as u64;
             0
@@ -50,7 +49,7 @@ fn adjusted_out(answer: Adjusted, pairs_before: &mut u64) -> u64
         Adjusted::Done => 0,
         Adjusted::Refused(why, before) => {
             *pairs_before = before as u64;
-            refusal_number(why)
+            u64::from(why)
         }
     }
 }
@@ -93,7 +92,7 @@ pub fn added_out(
     ensures { read result (kept.new ∷ index.new ∷ label_index.new ∷ joined.new ∷ place.new ∷ free_indices.new ∷ []) ≡ exported_reading (kept.old ∷ index.old ∷ label_index.old ∷ joined.old ∷ place.old ∷ free_indices.old ∷ []) (added_means answer) }
 {
     match answer {
-        Added::Refused(why) => refusal_number(why),
+        Added::Refused(why) => u64::from(why),
         Added::Waiting => {
             *kept = 0;
             0

@@ -16,7 +16,7 @@ use crate::opening::shape_in;
 use hold_definitions::HoldDoneResult;
 use store_check::bounds_hold;
 use store_definitions::{Done, Shape};
-use terms::{Refusal, refusal_number};
+use terms::Refusal;
 
 // The refusal of a record that is too short: the shape is looked at first, then the width.
 fn short_hold(shape: Shape, width: usize) -> u64
@@ -25,11 +25,11 @@ fn short_hold(shape: Shape, width: usize) -> u64
     let within = bounds_hold(shape.dimensions, shape.shingle_size, shape.capacity);
     if within & ((1 <= shape.initial_capacity) & (shape.initial_capacity <= shape.capacity)) {
         if (1 <= width) & (width < shape.capacity) {
-            return refusal_number(Refusal::IllFormed);
+            return u64::from(Refusal::IllFormed);
         }
-        return refusal_number(Refusal::HoldWidth);
+        return u64::from(Refusal::HoldWidth);
     }
-    refusal_number(Refusal::Shape)
+    u64::from(Refusal::Shape)
 }
 
 // A refused opening leaves the record.
@@ -39,7 +39,7 @@ fn opened_hold_out(words: &mut [u64], res: HoldDoneResult) -> u64
 {
     let answer = res.answer;
     match answer {
-        Done::Refused(why) => refusal_number(why),
+        Done::Refused(why) => u64::from(why),
         Done::Done => {
             let h = res.hold;
             hold_write(words, h);

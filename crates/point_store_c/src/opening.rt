@@ -7,7 +7,7 @@ ghost use Rattle.point_store_c.specs.ExportedStore.{returned, opened_words, expo
 use crate::record::{RECORD_WORDS, record_write};
 use store_check::bounds_hold;
 use store_definitions::{Done, DoneResult, Shape};
-use terms::{Refusal, refusal_number};
+use terms::Refusal;
 
 // What a flag above 1 stands for: a shape of zeros, which is outside the bounds.
 pub fn shape_in(
@@ -49,9 +49,9 @@ fn short_record(shape: Shape) -> u64
 {
     let within = bounds_hold(shape.dimensions, shape.shingle_size, shape.capacity);
     if within & ((1 <= shape.initial_capacity) & (shape.initial_capacity <= shape.capacity)) {
-        return refusal_number(Refusal::IllFormed);
+        return u64::from(Refusal::IllFormed);
     }
-    refusal_number(Refusal::Shape)
+    u64::from(Refusal::Shape)
 }
 
 // A refused opening leaves the record.
@@ -61,7 +61,7 @@ fn opened_out(words: &mut [u64], res: DoneResult) -> u64
 {
     let answer = res.answer;
     match answer {
-        Done::Refused(why) => refusal_number(why),
+        Done::Refused(why) => u64::from(why),
         Done::Done => {
             let s = res.store;
             record_write(words, s);

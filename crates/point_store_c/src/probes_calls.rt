@@ -18,7 +18,7 @@ use probes_check::eight_probes;
 use probes_definitions::ProbesDoneResult;
 use store_check::bounds_hold;
 use store_definitions::{Done, Shape};
-use terms::{Refusal, refusal_number};
+use terms::Refusal;
 
 // The refusal of a record that is too short: the shape is looked at first.
 fn short_probes(shape: Shape) -> u64
@@ -31,11 +31,11 @@ fn short_probes(shape: Shape) -> u64
             shape.shingle_size,
             shape.internal_shingling,
         ) {
-            return refusal_number(Refusal::IllFormed);
+            return u64::from(Refusal::IllFormed);
         }
-        return refusal_number(Refusal::Shape);
+        return u64::from(Refusal::Shape);
     }
-    refusal_number(Refusal::Shape)
+    u64::from(Refusal::Shape)
 }
 
 // A refused opening leaves the record.
@@ -45,7 +45,7 @@ fn opened_probes_out(words: &mut [u64], res: ProbesDoneResult) -> u64
 {
     let answer = res.answer;
     match answer {
-        Done::Refused(why) => refusal_number(why),
+        Done::Refused(why) => u64::from(why),
         Done::Done => {
             let p = res.probes;
             probes_write(words, p);

@@ -15,7 +15,6 @@ ghost use Rattle.store_definitions.specs.Answers.{added_means};
 ghost use Rattle.store_definitions.specs.Lent.{held};
 ghost use Rattle.store_definitions.specs.Memory.{point_store};
 
-use interval_store_manager::Decision;
 use probe_readings::{filled_words, is_accepted, kinds_of, set_decision, tallies_after, words_of};
 use probes_check::check_probes;
 use probes_definitions::{Probes, ProbesSetResult, Reading};
@@ -135,11 +134,11 @@ pub fn set_words(
     let figures = checked.figures;
     let d = set_decision(s.next_sequence_index, kinds, words.len());
     match d {
-        Decision::Refuse(why) => ProbesSetResult {
+        Err(why) => ProbesSetResult {
             probes: p,
             answer: Added::Refused(why),
         },
-        Decision::Go => set_filled(
+        Ok(()) => set_filled(
             p,
             store,
             last_known_shingle,

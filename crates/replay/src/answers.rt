@@ -2,7 +2,7 @@
 use crate::record::NONE_WRITTEN;
 use placement::Laid;
 use store_definitions::{Added, Adjusted, Done, Equality, Kept, Number};
-use terms::{NONE, refusal_number};
+use terms::NONE;
 
 // A value and up to five numbers.
 #[derive(Clone, Copy)]
@@ -45,28 +45,28 @@ fn one_number(value: usize, count: usize, a: usize) -> Told {
 pub fn of_done(d: Done) -> Told {
     match d {
         Done::Done => one_number(0, 0, 0),
-        Done::Refused(r) => one_number(refusal_number(r) as usize, 0, 0),
+        Done::Refused(r) => one_number(u64::from(r) as usize, 0, 0),
     }
 }
 
 pub fn of_number(n: Number) -> Told {
     match n {
         Number::Is(k) => one_number(0, 1, k),
-        Number::Refused(r) => one_number(refusal_number(r) as usize, 0, 0),
+        Number::Refused(r) => one_number(u64::from(r) as usize, 0, 0),
     }
 }
 
 pub fn of_equality(q: Equality) -> Told {
     match q {
         Equality::Is(b) => one_number(0, 1, b as usize),
-        Equality::Refused(r) => one_number(refusal_number(r) as usize, 0, 0),
+        Equality::Refused(r) => one_number(u64::from(r) as usize, 0, 0),
     }
 }
 
 pub fn of_adjusted(a: Adjusted) -> Told {
     match a {
         Adjusted::Done => one_number(0, 0, 0),
-        Adjusted::Refused(r, before) => one_number(refusal_number(r) as usize, 1, before),
+        Adjusted::Refused(r, before) => one_number(u64::from(r) as usize, 1, before),
     }
 }
 
@@ -103,6 +103,6 @@ pub fn of_added(a: Added) -> Told {
     match a {
         Added::Kept(k) => of_kept(k),
         Added::Waiting => one_number(0, 1, 0),
-        Added::Refused(r) => one_number(refusal_number(r) as usize, 0, 0),
+        Added::Refused(r) => one_number(u64::from(r) as usize, 0, 0),
     }
 }

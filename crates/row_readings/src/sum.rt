@@ -11,7 +11,6 @@ ghost use Rattle.store_rows.specs.Copying.{Readable};
 ghost use Rattle.row_readings.specs.Items.{weighted, weightings, Addable, AllAddable, checked_sum};
 
 use float_bits::add_scaled;
-use interval_store_manager::Decision;
 use store_counts::point_in_use;
 use store_definitions::{Done, Store};
 use terms::{FloatBits, PointIndex, Refusal};
@@ -20,32 +19,32 @@ use terms::{FloatBits, PointIndex, Refusal};
 const LARGEST_WEIGHT: usize = 16_777_216;
 
 // One item, its index first.
-pub fn item_test(s: Store, reference_count: &[u16], index: usize, weight: usize) -> Decision
+pub fn item_test(s: Store, reference_count: &[u16], index: usize, weight: usize) -> Result<(), Refusal>
     ensures { decision_means result ≡ items_decided (point_store s (counts_alone reference_count.now [])) (weighted index weight ∷ []) }
 {
     let point = PointIndex(index);
     if !point_in_use(s, reference_count, point) {
-        return Decision::Refuse(Refusal::PointNotInUse);
+        return Err(Refusal::PointNotInUse);
     }
     if LARGEST_WEIGHT < weight {
-        return Decision::Refuse(Refusal::ValueTooLarge);
+        return Err(Refusal::ValueTooLarge);
     }
-    Decision::Go
+    Ok(())
 }
 
-fn items_test(s: Store, reference_count: &[u16], items: &[[usize; 2]]) -> Decision
+fn items_test(s: Store, reference_count: &[u16], items: &[[usize; 2]]) -> Result<(), Refusal>
     ensures { decision_means result ≡ items_decided (point_store s (counts_alone reference_count.now [])) (weightings items.now) }
 {
     let mut i = 0;
     while i < items.len() {
         let item = items[i];
         let decision = item_test(s, reference_count, item[0], item[1]);
-        if let Decision::Refuse(why) = decision {
-            return Decision::Refuse(why);
+        if let Err(why) = decision {
+            return Err(why);
         }
         i += 1;
     }
-    Decision::Go
+    Ok(())
 }
 
 pub fn clear(out: &mut [f32])
@@ -107,8 +106,8 @@ pub fn point_sum_unchecked(
     }
     let decision = items_test(s, reference_count, items);
     match decision {
-        Decision::Refuse(why) => Done::Refused(why),
-        Decision::Go => {
+        Err(why) => Done::Refused(why),
+        Ok(()) => {
             clear(out);
             add_items(s, store, location, items, out);
             Done::Done

@@ -5,7 +5,6 @@ ghost use Rattle.store_definitions.specs.Parts.{table_length};
 ghost use Rattle.store_add.specs.Deciding.{decision_means, table_asked, keep_asked, add_asked};
 
 use crate::AddDecision;
-use interval_store_manager::Decision;
 use labels::{code_decision, room_decision};
 use placement_rows::grown_length;
 use store_definitions::Store;
@@ -65,8 +64,8 @@ fn keep_decision(s: Store) -> AddDecision
     let manager = s.label_manager;
     let labelled = room_decision(s.store_labels, manager);
     match labelled {
-        Decision::Refuse(why) => AddDecision::Refuse(why),
-        Decision::Go => table_decision(s),
+        Err(why) => AddDecision::Refuse(why),
+        Ok(()) => table_decision(s),
     }
 }
 
@@ -82,7 +81,7 @@ pub fn add_decision(s: Store, length: usize, code: usize) -> AddDecision
     }
     let coded = code_decision(s.store_labels, code);
     match coded {
-        Decision::Refuse(why) => AddDecision::Refuse(why),
-        Decision::Go => keep_decision(s),
+        Err(why) => AddDecision::Refuse(why),
+        Ok(()) => keep_decision(s),
     }
 }

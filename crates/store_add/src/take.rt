@@ -69,7 +69,7 @@ pub fn label_for(
 
 // Where no index is free the table grows.
 fn grow_points(
-    manager: IntervalStoreManager,
+    mut manager: IntervalStoreManager,
     reference_count: &mut [u16],
     location: &mut [u16],
     index_starts: &mut [u16],
@@ -84,14 +84,15 @@ fn grow_points(
         let old = manager.capacity;
         let new = grown_length(old, 1, capacity);
         grow_table(reference_count, location, old, new);
-        return manager.change_capacity_unchecked(index_starts, index_ends, new);
+        manager.change_capacity_unchecked(index_starts, index_ends, new);
+        return manager;
     }
     manager
 }
 
 // The next index gets the place.
 fn take_next(
-    manager: IntervalStoreManager,
+    mut manager: IntervalStoreManager,
     reference_count: &mut [u16],
     location: &mut [u16],
     index_starts: &mut [u16],
@@ -102,15 +103,14 @@ fn take_next(
     requires { Takeable (counted manager reference_count.old index_starts.old index_ends.now) location.old free × (place ≤ 65535) }
     ensures { index_given result.index result.free (counted result.manager reference_count.new index_starts.new index_ends.now) location.new ≡ index_placed (counted manager reference_count.old index_starts.old index_ends.now) location.old place }
 {
-    let taken = manager.get_unchecked(index_starts, index_ends, free);
-    let index = taken.given.index;
+    let given = manager.get_unchecked(index_starts, index_ends, free);
+    let index = given.index;
     reference_count[index] = 1;
     location[index] = place as u16;
-    let after = taken.manager;
     TakenIndex {
         index,
-        free: taken.given.free,
-        manager: after,
+        free: given.free,
+        manager,
     }
 }
 

@@ -9,10 +9,9 @@ ghost use Rattle.store_check.specs.Tables.{tables};
 ghost use Rattle.store_counts.specs.Tables.{counts_alone};
 ghost use Rattle.store_adjust.specs.Pairs.{pair_of, pair_test, pair_spec};
 
-use interval_store_manager::Decision;
 use store_counts::{dec_accepted, dec_test, inc_accepted, inc_test};
 use store_definitions::{Done, DoneResult, Store};
-use terms::{LabelIndex, NONE, PointIndex};
+use terms::{LabelIndex, NONE, PointIndex, Refusal};
 
 // Whether inc and dec will be taken. The counts before the inc decide of the dec: they are above 0 where those after it are.
 fn pair_test(
@@ -23,17 +22,17 @@ fn pair_test(
     insert_label: usize,
     delete_index: usize,
     delete_label: usize,
-) -> Decision
+) -> Result<(), Refusal>
     ensures { decision_means result ≡ pair_test (point_store s (counts_alone reference_count.now label_count.now)) (pair_of insert_index insert_label delete_index delete_label) }
 {
     let index = PointIndex(insert_index);
     let label = LabelIndex(insert_label);
     let raises = inc_test(s, reference_count, label_count, index, label);
     match raises {
-        Decision::Refuse(why) => Decision::Refuse(why),
-        Decision::Go => {
+        Err(why) => Err(why),
+        Ok(()) => {
             if delete_index == NONE {
-                return Decision::Go;
+                return Ok(());
             }
             let index = PointIndex(delete_index);
             let label = LabelIndex(delete_label);
@@ -159,11 +158,11 @@ pub fn adjust_pair(
         delete_label,
     );
     match d {
-        Decision::Refuse(why) => DoneResult {
+        Err(why) => DoneResult {
             store: s,
             answer: Done::Refused(why),
         },
-        Decision::Go => {
+        Ok(()) => {
             let store = pair_accepted(
                 s,
                 floats,

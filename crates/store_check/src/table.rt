@@ -34,15 +34,12 @@ fn marked_well(
     let n = manager.capacity;
     let base = s.dimensions / s.shingle_size;
     let limit = place_limit(base, s.dimensions, s.start_free_region);
-    let checked = mark_free(manager, index_starts, index_ends, marks);
-    if checked.ok {
-        let free = checked.free;
-        if entries_well(n, limit, marks, reference_count, location) {
-            return Some(TableChecked {
-                live: n - free,
-                limit: limit as usize,
-            });
-        }
+    let free = mark_free(manager, index_starts, index_ends, marks)?;
+    if entries_well(n, limit, marks, reference_count, location) {
+        return Some(TableChecked {
+            live: n - free,
+            limit: limit as usize,
+        });
     }
     None
 }

@@ -1,5 +1,5 @@
 -- What an accepted inc or dec may rely on, and what its parts come to.
-use Rattle.std.specs.Prelude.{ℕ, ◌+◌, ◌≤◌, ◌<◌, Bool, true, false, ◌≡◌, length, get_or, set, eqb}
+use Rattle.std.specs.Prelude.{ℕ, ◌+◌, ◌≤◌, ◌<◌, Bool, true, false, ◌≡◌, length, get_or, set, eqb, Result, Ok, Err}
 use Rattle.std.proofs.Common.{arith, ◌∙◌, eq-eqb, ne_eqb}
 use Rattle.std.proofs.Math.Bool.{cond}
 use mathlib.Core.List.{List}
@@ -7,8 +7,6 @@ use Rattle.std.proofs.Math.Path.{sym, ap}
 use Rattle.std.proofs.lemmas.Bool.{eqb-false}
 use Rattle.terms.specs.declared.Refusal.{Refusal}
 use Rattle.terms.specs.Refusals.{number}
-use Rattle.interval_store_manager.specs.declared.Decision.{Decision}
-use Rattle.interval_store_manager.specs.declared.Decision.TheVariants.{Go, Refuse}
 use Rattle.interval_store_manager.specs.Calls.{go, decision_means}
 use Rattle.labels.specs.Counted.{Counted, counted, raised, lowered}
 use Rattle.labels.specs.Decisions.{inc_decided, dec_decided}
@@ -131,25 +129,25 @@ module _ {E : Type 0} (p : PointStore E) where
     alone = point_store p.header (counts_alone counts p.memory.label_count)
 
     -- the ways out of a call
-    module _ (f : well_formed p ≡ true) (d : Decision) where
-      pub inc_goes : decision_means d ≡ inc_test alone i l → d ≡ Go → inc_test p i l ≡ go
+    module _ (f : well_formed p ≡ true) (d : Result Unit Refusal) where
+      pub inc_goes : decision_means d ≡ inc_test alone i l → d ≡ Ok tt → inc_test p i l ≡ go
       inc_goes a b = sym (inc_test_alone p i l) ∙ sym a ∙ ap decision_means b
 
-      pub inc_went : decision_means d ≡ inc_test alone i l → d ≡ Go → (q : PointStore E) → q ≡ incremented p i l → outcome done q ≡ inc_spec p i l
+      pub inc_went : decision_means d ≡ inc_test alone i l → d ≡ Ok tt → (q : PointStore E) → q ≡ incremented p i l → outcome done q ≡ inc_spec p i l
       unfolding inc_spec
       inc_went a b q e = rw (well p f, inc_goes a b) (ap (λ (x : PointStore E). outcome done x) e)
 
-      pub inc_refused : decision_means d ≡ inc_test alone i l → (r : Refusal) → d ≡ Refuse r → outcome (refused (number r)) p ≡ inc_spec p i l
+      pub inc_refused : decision_means d ≡ inc_test alone i l → (r : Refusal) → d ≡ Err r → outcome (refused (number r)) p ≡ inc_spec p i l
       unfolding inc_spec
       inc_refused a r b = rw (well p f, sym (inc_test_alone p i l) ∙ sym a ∙ ap decision_means b)
 
-      pub dec_goes : decision_means d ≡ dec_test alone i l → d ≡ Go → dec_test p i l ≡ go
+      pub dec_goes : decision_means d ≡ dec_test alone i l → d ≡ Ok tt → dec_test p i l ≡ go
       dec_goes a b = sym (dec_test_alone p i l) ∙ sym a ∙ ap decision_means b
 
-      pub dec_went : decision_means d ≡ dec_test alone i l → d ≡ Go → (q : PointStore E) → q ≡ decremented p i l → outcome done q ≡ dec_spec p i l
+      pub dec_went : decision_means d ≡ dec_test alone i l → d ≡ Ok tt → (q : PointStore E) → q ≡ decremented p i l → outcome done q ≡ dec_spec p i l
       unfolding dec_spec
       dec_went a b q e = rw (well p f, dec_goes a b) (ap (λ (x : PointStore E). outcome done x) e)
 
-      pub dec_refused : decision_means d ≡ dec_test alone i l → (r : Refusal) → d ≡ Refuse r → outcome (refused (number r)) p ≡ dec_spec p i l
+      pub dec_refused : decision_means d ≡ dec_test alone i l → (r : Refusal) → d ≡ Err r → outcome (refused (number r)) p ≡ dec_spec p i l
       unfolding dec_spec
       dec_refused a r b = rw (well p f, sym (dec_test_alone p i l) ∙ sym a ∙ ap decision_means b)

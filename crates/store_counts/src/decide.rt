@@ -6,7 +6,6 @@ ghost use Rattle.store_definitions.specs.Decisions.{live, refuse_if};
 ghost use Rattle.store_definitions.specs.Memory.{point_store};
 ghost use Rattle.store_counts.specs.Tables.{counts_alone};
 
-use interval_store_manager::Decision;
 use store_definitions::Store;
 use terms::{LabelIndex, PointIndex, Refusal};
 
@@ -39,27 +38,27 @@ pub fn inc_test(
     label_count: &[u16],
     index: PointIndex,
     label: LabelIndex,
-) -> Decision
+) -> Result<(), Refusal>
     ensures { decision_means result ≡ inc_test (point_store s (counts_alone reference_count.now label_count.now)) index.0 label.0 }
 {
     if point_in_use(s, reference_count, index) {
         let labelled = labels::inc_decision(s.store_labels, s.capacity, label_count, label);
         return match labelled {
-            Decision::Go => room_to_count(reference_count, index),
-            Decision::Refuse(r) => Decision::Refuse(r),
+            Ok(()) => room_to_count(reference_count, index),
+            Err(r) => Err(r),
         };
     }
-    Decision::Refuse(Refusal::PointNotInUse)
+    Err(Refusal::PointNotInUse)
 }
 
 // Whether a point's count may rise.
-fn room_to_count(reference_count: &[u16], index: PointIndex) -> Decision
+fn room_to_count(reference_count: &[u16], index: PointIndex) -> Result<(), Refusal>
     ensures { decision_means result ≡ refuse_if (eqb (get_or reference_count.now index.0 0) 65535) 7 }
 {
     if point_count(reference_count, index) == LARGEST_COUNT {
-        return Decision::Refuse(Refusal::CountFull);
+        return Err(Refusal::CountFull);
     }
-    Decision::Go
+    Ok(())
 }
 
 pub fn dec_test(
@@ -68,11 +67,11 @@ pub fn dec_test(
     label_count: &[u16],
     index: PointIndex,
     label: LabelIndex,
-) -> Decision
+) -> Result<(), Refusal>
     ensures { decision_means result ≡ dec_test (point_store s (counts_alone reference_count.now label_count.now)) index.0 label.0 }
 {
     if point_in_use(s, reference_count, index) {
         return labels::dec_decision(s.store_labels, s.capacity, label_count, label);
     }
-    Decision::Refuse(Refusal::PointNotInUse)
+    Err(Refusal::PointNotInUse)
 }

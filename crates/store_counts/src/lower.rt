@@ -12,7 +12,7 @@ ghost use Rattle.store_check.specs.Tables.{tables};
 ghost use Rattle.store_counts.specs.Tables.{emptied};
 
 use crate::decide::dec_test;
-use interval_store_manager::{Decision, IntervalStoreManager};
+use interval_store_manager::IntervalStoreManager;
 use labels::{LabelManagers, dec_label};
 use store_check::check;
 use store_definitions::{Done, DoneResult, Store};
@@ -20,7 +20,7 @@ use terms::{EMPTY_PLACE, LabelIndex, PointIndex, Refusal};
 
 // One count less of a point; at 0 its index is released and its place emptied.
 fn lower_point(
-    manager: IntervalStoreManager,
+    mut manager: IntervalStoreManager,
     reference_count: &mut [u16],
     location: &mut [u16],
     index_starts: &mut [u16],
@@ -35,7 +35,8 @@ fn lower_point(
     reference_count[i] = count - 1;
     if count == 1 {
         location[i] = EMPTY_PLACE;
-        return manager.release_unchecked(index_starts, index_ends, i);
+        manager.release_unchecked(index_starts, index_ends, i);
+        return manager;
     }
     manager
 }
@@ -157,11 +158,11 @@ pub fn dec_unchecked(
 {
     let d = dec_test(s, reference_count, label_count, index, label);
     match d {
-        Decision::Refuse(why) => DoneResult {
+        Err(why) => DoneResult {
             store: s,
             answer: Done::Refused(why),
         },
-        Decision::Go => {
+        Ok(()) => {
             let store = dec_accepted(
                 s,
                 floats,

@@ -9,7 +9,6 @@ ghost use Rattle.store_definitions.specs.WellFormed.{well_formed};
 ghost use Rattle.store_check.specs.Tables.{tables};
 
 use crate::decide::inc_test;
-use interval_store_manager::Decision;
 use labels::{LabelManagers, inc_label};
 use store_check::check;
 use store_definitions::{Done, DoneResult, Store};
@@ -92,11 +91,11 @@ pub fn inc_unchecked(
 {
     let d = inc_test(s, reference_count, label_count, index, label);
     match d {
-        Decision::Refuse(why) => DoneResult {
+        Err(why) => DoneResult {
             store: s,
             answer: Done::Refused(why),
         },
-        Decision::Go => {
+        Ok(()) => {
             inc_accepted(
                 s,
                 floats,

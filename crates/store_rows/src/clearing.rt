@@ -15,7 +15,7 @@ fn open_stack(capacity: usize, starts: &mut [u16], ends: &mut [u16])
     requires { Openable capacity starts.old ends.old }
     ensures { (starts.new ≡ set starts.old 0 0) × (ends.new ≡ set ends.old 0 (capacity - 1)) }
 {
-    IntervalStoreManager::new(capacity, starts, ends);
+    let _ = IntervalStoreManager::new(capacity, starts, ends);
 }
 
 pub fn open_points(

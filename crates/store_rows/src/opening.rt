@@ -11,7 +11,7 @@ ghost use Rattle.store_rows.specs.Openings.{label_managers, labels_lent_if};
 
 use crate::clearing::{open_labels, open_points};
 use class_table::read_classes;
-use interval_store_manager::{Decision, IntervalStoreManager};
+use interval_store_manager::IntervalStoreManager;
 use store_check::bounds_hold;
 use store_definitions::{Done, DoneResult, Shape, Store};
 use terms::{FloatBits, Refusal};
@@ -108,15 +108,15 @@ fn opening_decision(
     attribute_count: &[u32],
     attribute_starts: &[u16],
     attribute_ends: &[u16],
-) -> Decision
+) -> Result<(), Refusal>
     ensures { decision_means result ≡ open_judged shape table (held store.now last_known_shingle.now reference_count.now location.now index_starts.now index_ends.now labels.now label_attributes.now label_count.now label_starts.now label_ends.now attributes.now attribute_count.now attribute_starts.now attribute_ends.now) }
 {
     if bounds_hold(shape.dimensions, shape.shingle_size, shape.capacity) {
         if shape.initial_capacity < 1 {
-            return Decision::Refuse(Refusal::Shape);
+            return Err(Refusal::Shape);
         }
         if shape.capacity < shape.initial_capacity {
-            return Decision::Refuse(Refusal::Shape);
+            return Err(Refusal::Shape);
         }
         if enough_lent(
             shape,
@@ -137,13 +137,13 @@ fn opening_decision(
             attribute_ends,
         ) {
             if table {
-                return Decision::Go;
+                return Ok(());
             }
-            return Decision::Refuse(Refusal::ClassText);
+            return Err(Refusal::ClassText);
         }
-        return Decision::Refuse(Refusal::IllFormed);
+        return Err(Refusal::IllFormed);
     }
-    Decision::Refuse(Refusal::Shape)
+    Err(Refusal::Shape)
 }
 
 fn fresh_record(shape: Shape, classes: [u8; 24]) -> Store
@@ -245,14 +245,14 @@ pub fn open(
         attribute_ends,
     );
     match d {
-        Decision::Refuse(why) => {
+        Err(why) => {
             let none = no_record();
             DoneResult {
                 store: none,
                 answer: Done::Refused(why),
             }
         }
-        Decision::Go => {
+        Ok(()) => {
             let classes = read.classes;
             let fresh = fresh_record(shape, classes);
             open_points(

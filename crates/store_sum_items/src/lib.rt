@@ -18,7 +18,6 @@ ghost use Rattle.row_readings.specs.Items.{weighted, Addable};
 ghost use Rattle.store_sum_items.specs.Records.{weightings_of};
 ghost use Rattle.store_sum_items.specs.Steps.{refused_step, going_step, state_of, begun, turned};
 
-use interval_store_manager::Decision;
 use row_readings::{add_item, clear, item_test};
 use store_check::check;
 use store_definitions::{Done, Item, Store};
@@ -129,8 +128,8 @@ pub fn next_step(
     }
     let decision = item_test(s, reference_count, index, weight);
     match decision {
-        Decision::Refuse(why) => refused_step(why, count),
-        Decision::Go => {
+        Err(why) => refused_step(why, count),
+        Ok(()) => {
             if next + 1 < count {
                 return going_step(false, next + 1);
             }

@@ -2,7 +2,7 @@
 use placement::Laid;
 use std::io;
 use store_definitions::{Added, Adjusted, Done, Equality, Kept, Number};
-use terms::{NONE, Refusal, refusal_number};
+use terms::{NONE, Refusal};
 
 // The words of the floats 0.0 to 12.0.
 const WORDS: [u32; 13] = [
@@ -38,7 +38,7 @@ pub fn number(rt: &impl Print, n: usize) -> io::Result<()> {
 
 fn refusal(rt: &impl Print, r: Refusal) -> io::Result<()> {
     text(rt, b"refused ")?;
-    number(rt, refusal_number(r) as usize)
+    number(rt, u64::from(r) as usize)
 }
 
 fn laid(rt: &impl Print, l: Laid) -> io::Result<()> {

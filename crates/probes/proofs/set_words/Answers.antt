@@ -22,19 +22,19 @@ set_filled-requires c =
     let a = c.args in
     let m : Memory ℕ = held a.store.now a.last_known_shingle.now a.reference_count.now a.location.now a.index_starts.now a.index_ends.now a.labels.now a.label_attributes.now a.label_count.now a.label_starts.now a.label_ends.now a.attributes.now a.attribute_count.now a.attribute_starts.now a.attribute_ends.now in
     let p = point_probes a.p m in
-    let eight = eight_each words_equal 0 p a.kinds.now a.words.now a.label (sym c.set_decision-d.ensures ∙ ap decision_means c.in-Go.is) in
+    let eight = eight_each words_equal 0 p a.kinds.now a.words.now a.label (sym c.set_decision-d.ensures ∙ ap decision_means c.in-Ok.is) in
     (sym c.check_probes-checked.ensures.0 ∙ c.if-not-ok.false, (eight.0, (eight.1, c.check_probes-checked.ensures.1 (c.if-not-ok.false))))
 
-pub returns-in-Refuse : goal.returns-in-Refuse
-returns-in-Refuse c =
+pub returns-in-Err : goal.returns-in-Err
+returns-in-Err c =
     let a = c.args in
     let m : Memory ℕ = held a.store.now a.last_known_shingle.now a.reference_count.now a.location.now a.index_starts.now a.index_ends.now a.labels.now a.label_attributes.now a.label_count.now a.label_starts.now a.label_ends.now a.attributes.now a.attribute_count.now a.attribute_starts.now a.attribute_ends.now in
     let p = point_probes a.p m in
-    words_refused words_equal 0 p a.kinds.now a.words.now a.label (sym c.check_probes-checked.ensures.0 ∙ c.if-not-ok.false) (number c.in-Refuse.why) (sym c.set_decision-d.ensures ∙ ap decision_means c.in-Refuse.is)
+    words_refused words_equal 0 p a.kinds.now a.words.now a.label (sym c.check_probes-checked.ensures.0 ∙ c.if-not-ok.false) (number c.in-Err.why) (sym c.set_decision-d.ensures ∙ ap decision_means c.in-Err.is)
 
-pub returns-in-Go : goal.returns-in-Go
-returns-in-Go c =
+pub returns-in-Ok : goal.returns-in-Ok
+returns-in-Ok c =
     let a = c.args in
     let m : Memory ℕ = held a.store.now a.last_known_shingle.now a.reference_count.now a.location.now a.index_starts.now a.index_ends.now a.labels.now a.label_attributes.now a.label_count.now a.label_starts.now a.label_ends.now a.attributes.now a.attribute_count.now a.attribute_starts.now a.attribute_ends.now in
     let p = point_probes a.p m in
-    c.set_filled.ensures ∙ words_go words_equal 0 p a.kinds.now a.words.now a.label (sym c.check_probes-checked.ensures.0 ∙ c.if-not-ok.false) (sym c.set_decision-d.ensures ∙ ap decision_means c.in-Go.is)
+    c.set_filled.ensures ∙ words_go words_equal 0 p a.kinds.now a.words.now a.label (sym c.check_probes-checked.ensures.0 ∙ c.if-not-ok.false) (sym c.set_decision-d.ensures ∙ ap decision_means c.in-Ok.is)

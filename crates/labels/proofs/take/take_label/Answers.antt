@@ -23,8 +23,8 @@ take_slot-s-requires c =
       figure = c.requires.1.1.1.slots;
     }
 
-pub get_unchecked-taken-requires : goal.get_unchecked-taken-requires
-get_unchecked-taken-requires c =
+pub get_unchecked-given-requires : goal.get_unchecked-given-requires
+get_unchecked-given-requires c =
     let l = label_half c.args.managers c.args.labels.now c.args.label_attributes.now c.args.label_count.now c.args.label_starts.now c.args.label_ends.now c.args.attributes.now c.args.attribute_count.now c.args.attribute_starts.now c.args.attribute_ends.now in
     let w = sound c.args.classes.now c.args.capacity l c.requires.0 in
     (w.label_table_lem.managed, (c.requires.1.1.0, c.requires.1.1.1.labels))
@@ -33,7 +33,7 @@ pub bounds-labels-index : goal.bounds-labels-index
 bounds-labels-index c =
     let l = label_half c.args.managers c.args.labels.now c.args.label_attributes.now c.args.label_count.now c.args.label_starts.now c.args.label_ends.now c.args.attributes.now c.args.attribute_count.now c.args.attribute_starts.now c.args.attribute_ends.now in
     let w = sound c.args.classes.now c.args.capacity l c.requires.0 in
-    omega (arith, index_given_lem l.label_table c.get_unchecked-taken.result.given.index _ _ _ _ c.get_unchecked-taken.ensures, next_within c.args.capacity l.label_table w.label_table_lem c.requires.1.1.0, w.codes_lent)
+    omega (arith, index_given_lem l.label_table c.get_unchecked-given.result.index _ _ _ _ c.get_unchecked-given.ensures, next_within c.args.capacity l.label_table w.label_table_lem c.requires.1.1.0, w.codes_lent)
 
 pub overflow_cast-label_attributes : goal.overflow_cast-label_attributes
 overflow_cast-label_attributes c =
@@ -46,27 +46,27 @@ pub offset_bounds-label_attributes-index : goal.offset_bounds-label_attributes-i
 offset_bounds-label_attributes-index c =
     let l = label_half c.args.managers c.args.labels.now c.args.label_attributes.now c.args.label_count.now c.args.label_starts.now c.args.label_ends.now c.args.attributes.now c.args.attribute_count.now c.args.attribute_starts.now c.args.attribute_ends.now in
     let w = sound c.args.classes.now c.args.capacity l c.requires.0 in
-    scaled_Fits _ _ _ (omega (arith, index_given_lem l.label_table c.get_unchecked-taken.result.given.index _ _ _ _ c.get_unchecked-taken.ensures, next_within c.args.capacity l.label_table w.label_table_lem c.requires.1.1.0, w.slots_lent)) c.well_formed.1.1.1.1.0.1
+    scaled_Fits _ _ _ (omega (arith, index_given_lem l.label_table c.get_unchecked-given.result.index _ _ _ _ c.get_unchecked-given.ensures, next_within c.args.capacity l.label_table w.label_table_lem c.requires.1.1.0, w.slots_lent)) c.well_formed.1.1.1.1.0.1
 
 pub bounds-label_attributes-index : goal.bounds-label_attributes-index
 bounds-label_attributes-index c =
     let l = label_half c.args.managers c.args.labels.now c.args.label_attributes.now c.args.label_count.now c.args.label_starts.now c.args.label_ends.now c.args.attributes.now c.args.attribute_count.now c.args.attribute_starts.now c.args.attribute_ends.now in
     let w = sound c.args.classes.now c.args.capacity l c.requires.0 in
-    omega (arith, index_given_lem l.label_table c.get_unchecked-taken.result.given.index _ _ _ _ c.get_unchecked-taken.ensures, next_within c.args.capacity l.label_table w.label_table_lem c.requires.1.1.0, w.slots_lent)
+    omega (arith, index_given_lem l.label_table c.get_unchecked-given.result.index _ _ _ _ c.get_unchecked-given.ensures, next_within c.args.capacity l.label_table w.label_table_lem c.requires.1.1.0, w.slots_lent)
 
 pub offset_bounds-label_count-index : goal.offset_bounds-label_count-index
 offset_bounds-label_count-index c =
     let l = label_half c.args.managers c.args.labels.now c.args.label_attributes.now c.args.label_count.now c.args.label_starts.now c.args.label_ends.now c.args.attributes.now c.args.attribute_count.now c.args.attribute_starts.now c.args.attribute_ends.now in
     let w = sound c.args.classes.now c.args.capacity l c.requires.0 in
-    scaled_Fits _ _ _ (omega (arith, index_given_lem l.label_table c.get_unchecked-taken.result.given.index _ _ _ _ c.get_unchecked-taken.ensures, next_within c.args.capacity l.label_table w.label_table_lem c.requires.1.1.0, w.label_table_lem.lent)) c.well_formed.1.1.1.1.1.0.1
+    scaled_Fits _ _ _ (omega (arith, index_given_lem l.label_table c.get_unchecked-given.result.index _ _ _ _ c.get_unchecked-given.ensures, next_within c.args.capacity l.label_table w.label_table_lem c.requires.1.1.0, w.label_table_lem.lent)) c.well_formed.1.1.1.1.1.0.1
 
 pub bounds-label_count-index : goal.bounds-label_count-index
 bounds-label_count-index c =
     let l = label_half c.args.managers c.args.labels.now c.args.label_attributes.now c.args.label_count.now c.args.label_starts.now c.args.label_ends.now c.args.attributes.now c.args.attribute_count.now c.args.attribute_starts.now c.args.attribute_ends.now in
     let w = sound c.args.classes.now c.args.capacity l c.requires.0 in
-    omega (arith, index_given_lem l.label_table c.get_unchecked-taken.result.given.index _ _ _ _ c.get_unchecked-taken.ensures, next_within c.args.capacity l.label_table w.label_table_lem c.requires.1.1.0, w.label_table_lem.lent)
+    omega (arith, index_given_lem l.label_table c.get_unchecked-given.result.index _ _ _ _ c.get_unchecked-given.ensures, next_within c.args.capacity l.label_table w.label_table_lem c.requires.1.1.0, w.label_table_lem.lent)
 
 pub returns : goal.returns
 returns c =
     let l = label_half c.args.managers c.args.labels.now c.args.label_attributes.now c.args.label_count.now c.args.label_starts.now c.args.label_ends.now c.args.attributes.now c.args.attribute_count.now c.args.attribute_starts.now c.args.attribute_ends.now in
-    taken_label c.args.classes.now c.args.capacity l c.args.code c.class_of-class.result c.class_of-class.ensures _ c.take_slot-s.ensures c.get_unchecked-taken.result.given.index _ _ _ _ c.get_unchecked-taken.ensures
+    taken_label c.args.classes.now c.args.capacity l c.args.code c.class_of-class.result c.class_of-class.ensures _ c.take_slot-s.ensures c.get_unchecked-given.result.index _ _ _ _ c.get_unchecked-given.ensures

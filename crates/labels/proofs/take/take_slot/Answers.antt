@@ -10,13 +10,13 @@ pub returns-then-live-capacity : goal.returns-then-live-capacity
 returns-then-live-capacity c = taken_live c.args.capacity c.args.attributes.now (counted c.args.manager c.args.attribute_count.now c.args.attribute_starts.now c.args.attribute_ends.now) c.args.class c.class_slot-live.result c.class_slot-live.ensures c.if-live-capacity.true
 
 pub bounds-attributes-slot : goal.bounds-attributes-slot
-bounds-attributes-slot c = omega (arith, index_given_lem (counted c.args.manager c.args.attribute_count.now c.args.attribute_starts.now c.args.attribute_ends.now) c.get_unchecked-taken.result.given.index _ _ _ _ c.get_unchecked-taken.ensures, next_within c.args.capacity (counted c.args.manager c.args.attribute_count.now c.args.attribute_starts.now c.args.attribute_ends.now) c.requires.well c.requires.some_free, c.requires.lent)
+bounds-attributes-slot c = omega (arith, index_given_lem (counted c.args.manager c.args.attribute_count.now c.args.attribute_starts.now c.args.attribute_ends.now) c.get_unchecked-given.result.index _ _ _ _ c.get_unchecked-given.ensures, next_within c.args.capacity (counted c.args.manager c.args.attribute_count.now c.args.attribute_starts.now c.args.attribute_ends.now) c.requires.well c.requires.some_free, c.requires.lent)
 
 pub offset_bounds-attribute_count-slot : goal.offset_bounds-attribute_count-slot
-offset_bounds-attribute_count-slot c = scaled_Fits _ _ _ (omega (arith, index_given_lem (counted c.args.manager c.args.attribute_count.now c.args.attribute_starts.now c.args.attribute_ends.now) c.get_unchecked-taken.result.given.index _ _ _ _ c.get_unchecked-taken.ensures, next_within c.args.capacity (counted c.args.manager c.args.attribute_count.now c.args.attribute_starts.now c.args.attribute_ends.now) c.requires.well c.requires.some_free, c.requires.well.lent)) c.well_formed.1.1.1.0.1
+offset_bounds-attribute_count-slot c = scaled_Fits _ _ _ (omega (arith, index_given_lem (counted c.args.manager c.args.attribute_count.now c.args.attribute_starts.now c.args.attribute_ends.now) c.get_unchecked-given.result.index _ _ _ _ c.get_unchecked-given.ensures, next_within c.args.capacity (counted c.args.manager c.args.attribute_count.now c.args.attribute_starts.now c.args.attribute_ends.now) c.requires.well c.requires.some_free, c.requires.well.lent)) c.well_formed.1.1.1.0.1
 
 pub bounds-attribute_count-slot : goal.bounds-attribute_count-slot
-bounds-attribute_count-slot c = omega (arith, index_given_lem (counted c.args.manager c.args.attribute_count.now c.args.attribute_starts.now c.args.attribute_ends.now) c.get_unchecked-taken.result.given.index _ _ _ _ c.get_unchecked-taken.ensures, next_within c.args.capacity (counted c.args.manager c.args.attribute_count.now c.args.attribute_starts.now c.args.attribute_ends.now) c.requires.well c.requires.some_free, c.requires.well.lent)
+bounds-attribute_count-slot c = omega (arith, index_given_lem (counted c.args.manager c.args.attribute_count.now c.args.attribute_starts.now c.args.attribute_ends.now) c.get_unchecked-given.result.index _ _ _ _ c.get_unchecked-given.ensures, next_within c.args.capacity (counted c.args.manager c.args.attribute_count.now c.args.attribute_starts.now c.args.attribute_ends.now) c.requires.well c.requires.some_free, c.requires.well.lent)
 
 pub returns : goal.returns
-returns c = taken_new c.args.capacity c.args.attributes.now (counted c.args.manager c.args.attribute_count.now c.args.attribute_starts.now c.args.attribute_ends.now) c.args.class c.class_slot-live.result c.class_slot-live.ensures _ _ _ _ _ c.if-live-capacity.false c.get_unchecked-taken.ensures
+returns c = taken_new c.args.capacity c.args.attributes.now (counted c.args.manager c.args.attribute_count.now c.args.attribute_starts.now c.args.attribute_ends.now) c.args.class c.class_slot-live.result c.class_slot-live.ensures _ _ _ _ _ c.if-live-capacity.false c.get_unchecked-given.ensures

@@ -5,7 +5,7 @@ use Rattle.point_store_c.proofs.answers.added_out.Goals as goal
 pub returns-in-Refused : goal.returns-in-Refused
 unfolding exported_reading
 returns-in-Refused c =
-    rw (c.in-Refused.is, c.refusal_number.ensures)
+    rw (c.in-Refused.is, c.from.ensures)
 
 pub returns-in-Waiting : goal.returns-in-Waiting
 unfolding exported_reading

@@ -9,4 +9,4 @@ returns-in-Done c = rw c.in-Done.is
 pub returns-in-Refused : goal.returns-in-Refused
 unfolding exported_reading
 returns-in-Refused c =
-    rw (c.in-Refused.is, c.refusal_number.ensures)
+    rw (c.in-Refused.is, c.from.ensures)

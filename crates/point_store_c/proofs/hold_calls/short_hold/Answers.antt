@@ -5,12 +5,12 @@ use Rattle.point_store_c.proofs.hold_calls.short_hold.Goals as goal
 
 pub returns-then-width-shape : goal.returns-then-width-shape
 returns-then-width-shape c =
-    c.refusal_number.ensures ∙ short_wide c.args.shape c.args.width c.bounds_hold-within.result c.bounds_hold-within.ensures c.if-within-shape.true c.if-width-shape.true
+    c.from.ensures ∙ short_wide c.args.shape c.args.width c.bounds_hold-within.result c.bounds_hold-within.ensures c.if-within-shape.true c.if-width-shape.true
 
 pub returns-then-within-shape : goal.returns-then-within-shape
 returns-then-within-shape c =
-    c.refusal_number-then-within-shape.ensures ∙ short_narrow c.args.shape c.args.width c.bounds_hold-within.result c.bounds_hold-within.ensures c.if-within-shape.true c.if-width-shape.false
+    c.from-then-within-shape.ensures ∙ short_narrow c.args.shape c.args.width c.bounds_hold-within.result c.bounds_hold-within.ensures c.if-within-shape.true c.if-width-shape.false
 
 pub returns : goal.returns
 returns c =
-    c.refusal_number-2.ensures ∙ short_shape c.args.shape c.args.width c.bounds_hold-within.result c.bounds_hold-within.ensures c.if-within-shape.false
+    c.from-2.ensures ∙ short_shape c.args.shape c.args.width c.bounds_hold-within.result c.bounds_hold-within.ensures c.if-within-shape.false

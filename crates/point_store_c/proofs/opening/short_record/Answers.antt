@@ -5,8 +5,8 @@ use Rattle.point_store_c.proofs.opening.short_record.Goals as goal
 
 pub returns-then-within-shape : goal.returns-then-within-shape
 returns-then-within-shape c =
-    c.refusal_number.ensures ∙ short_allowed c.args.shape c.bounds_hold-within.result c.bounds_hold-within.ensures c.if-within-shape.true
+    c.from.ensures ∙ short_allowed c.args.shape c.bounds_hold-within.result c.bounds_hold-within.ensures c.if-within-shape.true
 
 pub returns : goal.returns
 returns c =
-    c.refusal_number-2.ensures ∙ short_refused c.args.shape c.bounds_hold-within.result c.bounds_hold-within.ensures c.if-within-shape.false
+    c.from-2.ensures ∙ short_refused c.args.shape c.bounds_hold-within.result c.bounds_hold-within.ensures c.if-within-shape.false

@@ -7,10 +7,10 @@ pub eight_probes-requires : goal.eight_probes-requires
 eight_probes-requires c = short_positive c.args.shape c.bounds_hold-within.result c.bounds_hold-within.ensures c.if-within-shape.true
 
 pub returns-then-eight_probes : goal.returns-then-eight_probes
-returns-then-eight_probes c = c.refusal_number.ensures ∙ short_eight c.args.shape c.bounds_hold-within.result c.bounds_hold-within.ensures c.if-within-shape.true (sym c.eight_probes.ensures ∙ c.if-eight_probes.true)
+returns-then-eight_probes c = c.from.ensures ∙ short_eight c.args.shape c.bounds_hold-within.result c.bounds_hold-within.ensures c.if-within-shape.true (sym c.eight_probes.ensures ∙ c.if-eight_probes.true)
 
 pub returns-then-within-shape : goal.returns-then-within-shape
-returns-then-within-shape c = c.refusal_number-then-within-shape.ensures ∙ short_other c.args.shape c.bounds_hold-within.result c.bounds_hold-within.ensures c.if-within-shape.true (sym c.eight_probes.ensures ∙ c.if-eight_probes.false)
+returns-then-within-shape c = c.from-then-within-shape.ensures ∙ short_other c.args.shape c.bounds_hold-within.result c.bounds_hold-within.ensures c.if-within-shape.true (sym c.eight_probes.ensures ∙ c.if-eight_probes.false)
 
 pub returns : goal.returns
-returns c = c.refusal_number-2.ensures ∙ short_shape c.args.shape c.bounds_hold-within.result c.bounds_hold-within.ensures c.if-within-shape.false
+returns c = c.from-2.ensures ∙ short_shape c.args.shape c.bounds_hold-within.result c.bounds_hold-within.ensures c.if-within-shape.false

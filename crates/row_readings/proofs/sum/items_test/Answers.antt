@@ -8,10 +8,10 @@ use Rattle.store_counts.specs.Tables.{counts_alone}
 use Rattle.row_readings.specs.SumLaws.{refused_here, goes_here, none_decided}
 use Rattle.row_readings.proofs.sum.items_test.Goals as goal
 
-pub returns-in-Refuse : goal.returns-in-Refuse
-returns-in-Refuse c =
+pub returns-in-Err : goal.returns-in-Err
+returns-in-Err c =
     let a = c.args in
-    refused_here (point_store a.s (counts_alone a.reference_count.now [])) a.items.now c.loop-i.i c.loop-i-test.true (decision_means c.item_test-decision.result) c.item_test-decision.ensures _ (ap decision_means c.in-Refuse.is) ∙ c.loop-i.invariant.1
+    refused_here (point_store a.s (counts_alone a.reference_count.now [])) a.items.now c.loop-i.i c.loop-i-test.true (decision_means c.item_test-decision.result) c.item_test-decision.ensures _ (ap decision_means c.in-Err.is) ∙ c.loop-i.invariant.1
 
 pub loop-i-preserved : goal.loop-i-preserved
 loop-i-preserved c =

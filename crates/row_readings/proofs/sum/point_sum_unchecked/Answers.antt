@@ -20,14 +20,14 @@ returns-then-out-dimensions c =
 pub add_items-requires : goal.add_items-requires
 add_items-requires c =
     let a = c.args in
-    (c.clear.auto.out ∙ c.if-out-dimensions.false, all_addable a.s (length a.store.now) a.reference_count.now a.location.now c.requires a.items.now (sym c.items_test-decision.ensures ∙ ap decision_means c.in-Go.is))
+    (c.clear.auto.out ∙ c.if-out-dimensions.false, all_addable a.s (length a.store.now) a.reference_count.now a.location.now c.requires a.items.now (sym c.items_test-decision.ensures ∙ ap decision_means c.in-Ok.is))
 
-pub returns-in-Refuse : goal.returns-in-Refuse
-returns-in-Refuse c =
+pub returns-in-Err : goal.returns-in-Err
+returns-in-Err c =
     let a = c.args in
-    sum_refused add_scaled (float_of plus_zero) a.s a.store.now a.reference_count.now a.location.now (weightings a.items.now) a.out.now c.if-out-dimensions.false _ (sym c.items_test-decision.ensures ∙ ap decision_means c.in-Refuse.is)
+    sum_refused add_scaled (float_of plus_zero) a.s a.store.now a.reference_count.now a.location.now (weightings a.items.now) a.out.now c.if-out-dimensions.false _ (sym c.items_test-decision.ensures ∙ ap decision_means c.in-Err.is)
 
-pub returns-in-Go : goal.returns-in-Go
-returns-in-Go c =
+pub returns-in-Ok : goal.returns-in-Ok
+returns-in-Ok c =
     let a = c.args in
-    sum_written_lem add_scaled (float_of plus_zero) a.s a.store.now a.reference_count.now a.location.now (weightings a.items.now) a.out.now c.if-out-dimensions.false (sym c.items_test-decision.ensures ∙ ap decision_means c.in-Go.is) _ (c.add_items.ensures ∙ ap (λ (sums : List Float). summed add_scaled (point_store a.s (rows_alone a.store.now [] a.location.now)) (weightings a.items.now) sums) c.clear.ensures)
+    sum_written_lem add_scaled (float_of plus_zero) a.s a.store.now a.reference_count.now a.location.now (weightings a.items.now) a.out.now c.if-out-dimensions.false (sym c.items_test-decision.ensures ∙ ap decision_means c.in-Ok.is) _ (c.add_items.ensures ∙ ap (λ (sums : List Float). summed add_scaled (point_store a.s (rows_alone a.store.now [] a.location.now)) (weightings a.items.now) sums) c.clear.ensures)

@@ -13,10 +13,10 @@ pub returns-then-s-eq-LAST_SEQUENCE : goal.returns-then-s-eq-LAST_SEQUENCE
 unfolding add_asked
 returns-then-s-eq-LAST_SEQUENCE c = rw (eq-eqb c.args.length _ (c.if-length-point_length.false ∙ c.point_length.ensures), eq-eqb c.args.s.next_sequence_index 4294967295 c.if-s-eq-LAST_SEQUENCE.true)
 
-pub returns-in-Refuse : goal.returns-in-Refuse
+pub returns-in-Err : goal.returns-in-Err
 unfolding add_asked
-returns-in-Refuse c = rw (eq-eqb c.args.length _ (c.if-length-point_length.false ∙ c.point_length.ensures), ne_eqb c.args.s.next_sequence_index 4294967295 c.if-s-eq-LAST_SEQUENCE.false, sym c.code_decision-coded.ensures ∙ ap decision_means c.in-Refuse.is)
+returns-in-Err c = rw (eq-eqb c.args.length _ (c.if-length-point_length.false ∙ c.point_length.ensures), ne_eqb c.args.s.next_sequence_index 4294967295 c.if-s-eq-LAST_SEQUENCE.false, sym c.code_decision-coded.ensures ∙ ap decision_means c.in-Err.is)
 
-pub returns-in-Go : goal.returns-in-Go
+pub returns-in-Ok : goal.returns-in-Ok
 unfolding add_asked
-returns-in-Go c = rw (eq-eqb c.args.length _ (c.if-length-point_length.false ∙ c.point_length.ensures), ne_eqb c.args.s.next_sequence_index 4294967295 c.if-s-eq-LAST_SEQUENCE.false, sym c.code_decision-coded.ensures ∙ ap decision_means c.in-Go.is) c.keep_decision.ensures
+returns-in-Ok c = rw (eq-eqb c.args.length _ (c.if-length-point_length.false ∙ c.point_length.ensures), ne_eqb c.args.s.next_sequence_index 4294967295 c.if-s-eq-LAST_SEQUENCE.false, sym c.code_decision-coded.ensures ∙ ap decision_means c.in-Ok.is) c.keep_decision.ensures

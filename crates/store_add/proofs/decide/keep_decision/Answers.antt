@@ -8,10 +8,10 @@ pub returns-then-still_waits : goal.returns-then-still_waits
 unfolding keep_asked
 returns-then-still_waits c = rw (sym c.still_waits.ensures ∙ c.if-still_waits.true)
 
-pub returns-in-Refuse : goal.returns-in-Refuse
+pub returns-in-Err : goal.returns-in-Err
 unfolding keep_asked
-returns-in-Refuse c = rw (sym c.still_waits.ensures ∙ c.if-still_waits.false, sym c.room_decision-labelled.ensures ∙ ap decision_means c.in-Refuse.is)
+returns-in-Err c = rw (sym c.still_waits.ensures ∙ c.if-still_waits.false, sym c.room_decision-labelled.ensures ∙ ap decision_means c.in-Err.is)
 
-pub returns-in-Go : goal.returns-in-Go
+pub returns-in-Ok : goal.returns-in-Ok
 unfolding keep_asked table_asked
-returns-in-Go c = rw (sym c.still_waits.ensures ∙ c.if-still_waits.false, sym c.room_decision-labelled.ensures ∙ ap decision_means c.in-Go.is) c.table_decision.ensures
+returns-in-Ok c = rw (sym c.still_waits.ensures ∙ c.if-still_waits.false, sym c.room_decision-labelled.ensures ∙ ap decision_means c.in-Ok.is) c.table_decision.ensures

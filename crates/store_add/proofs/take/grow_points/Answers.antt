@@ -25,7 +25,7 @@ returns-then-manager-eq0 c = let a = c.args in
     let g = grown_fits a.manager.capacity 1 a.capacity c.grown_length-new.result pre.within c.grown_length-new.ensures in
     let gt = c.grow_table in
     let ch = c.change_capacity_unchecked in
-    let e = grown_is a.capacity t a.location.now c.if-manager-eq0.true c.grown_length-new.result c.grown_length-new.ensures g.0 gt.new.reference_count gt.new.location gt.ensures.counts gt.ensures.places ch.result ch.new.starts ch.new.ends ch.ensures in
+    let e = grown_is a.capacity t a.location.now c.if-manager-eq0.true c.grown_length-new.result c.grown_length-new.ensures g.0 gt.new.reference_count gt.new.location gt.ensures.counts gt.ensures.places ch.new.self ch.new.starts ch.new.ends ch.ensures in
     record { table = e.0; places = e.1 }
 
 pub returns : goal.returns

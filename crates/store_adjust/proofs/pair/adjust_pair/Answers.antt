@@ -17,18 +17,18 @@ pair_accepted-store-requires c =
     let a = c.args in
     let p = point_store a.s (tables a.floats a.window a.reference_count.now a.location.now a.index_starts.now a.index_ends.now a.labels.now a.label_attributes.now a.label_count.now a.label_starts.now a.label_ends.now a.attributes.now a.attribute_count.now a.attribute_starts.now a.attribute_ends.now) in
     let q = pair_of a.insert_index a.insert_label a.delete_index a.delete_label in
-    (c.requires, pair_goes p q c.if-insert_index-eq-NONE.false _ c.pair_test-d.ensures c.in-Go.is)
+    (c.requires, pair_goes p q c.if-insert_index-eq-NONE.false _ c.pair_test-d.ensures c.in-Ok.is)
 
-pub returns-in-Refuse : goal.returns-in-Refuse
-returns-in-Refuse c =
+pub returns-in-Err : goal.returns-in-Err
+returns-in-Err c =
     let a = c.args in
     let p = point_store a.s (tables a.floats a.window a.reference_count.now a.location.now a.index_starts.now a.index_ends.now a.labels.now a.label_attributes.now a.label_count.now a.label_starts.now a.label_ends.now a.attributes.now a.attribute_count.now a.attribute_starts.now a.attribute_ends.now) in
     let q = pair_of a.insert_index a.insert_label a.delete_index a.delete_label in
-    pair_refused p q c.if-insert_index-eq-NONE.false _ c.pair_test-d.ensures _ c.in-Refuse.is
+    pair_refused p q c.if-insert_index-eq-NONE.false _ c.pair_test-d.ensures _ c.in-Err.is
 
-pub returns-in-Go : goal.returns-in-Go
-returns-in-Go c =
+pub returns-in-Ok : goal.returns-in-Ok
+returns-in-Ok c =
     let a = c.args in
     let p = point_store a.s (tables a.floats a.window a.reference_count.now a.location.now a.index_starts.now a.index_ends.now a.labels.now a.label_attributes.now a.label_count.now a.label_starts.now a.label_ends.now a.attributes.now a.attribute_count.now a.attribute_starts.now a.attribute_ends.now) in
     let q = pair_of a.insert_index a.insert_label a.delete_index a.delete_label in
-    pair_went p q c.if-insert_index-eq-NONE.false _ c.pair_test-d.ensures c.in-Go.is _ c.pair_accepted-store.ensures
+    pair_went p q c.if-insert_index-eq-NONE.false _ c.pair_test-d.ensures c.in-Ok.is _ c.pair_accepted-store.ensures

@@ -10,18 +10,18 @@ returns-then-delete_index-eq-NONE c =
     let a = c.args in
     let p = point_store a.s (counts_alone a.reference_count.now a.label_count.now) in
     let q = pair_of a.insert_index a.insert_label a.delete_index a.delete_label in
-    test_inc p q _ c.inc_test-raises.ensures c.in-Go.is c.if-delete_index-eq-NONE.true
+    test_inc p q _ c.inc_test-raises.ensures c.in-Ok.is c.if-delete_index-eq-NONE.true
 
-pub returns-in-Refuse : goal.returns-in-Refuse
-returns-in-Refuse c =
+pub returns-in-Err : goal.returns-in-Err
+returns-in-Err c =
     let a = c.args in
     let p = point_store a.s (counts_alone a.reference_count.now a.label_count.now) in
     let q = pair_of a.insert_index a.insert_label a.delete_index a.delete_label in
-    test_refused p q _ c.inc_test-raises.ensures _ c.in-Refuse.is
+    test_refused p q _ c.inc_test-raises.ensures _ c.in-Err.is
 
 pub returns-else-delete_index-eq-NONE : goal.returns-else-delete_index-eq-NONE
 returns-else-delete_index-eq-NONE c =
     let a = c.args in
     let p = point_store a.s (counts_alone a.reference_count.now a.label_count.now) in
     let q = pair_of a.insert_index a.insert_label a.delete_index a.delete_label in
-    test_dec p q _ c.inc_test-raises.ensures c.in-Go.is c.if-delete_index-eq-NONE.false _ c.dec_test.ensures
+    test_dec p q _ c.inc_test-raises.ensures c.in-Ok.is c.if-delete_index-eq-NONE.false _ c.dec_test.ensures

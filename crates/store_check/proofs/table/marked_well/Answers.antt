@@ -17,23 +17,23 @@ pub overflow_sub-result : goal.overflow_sub-result
 overflow_sub-result c =
     let live =
     let a = c.args in
-    all_or_live a.s a.reference_count.now a.location.now a.index_starts.now a.index_ends.now _ c.requires.0 _ _ _ c.mark_free-checked.ensures c.place_limit-limit.ensures c.if-checked.true (sym c.entries_well.ensures ∙ c.if-entries_well.true) in
+    all_or_live a.s a.reference_count.now a.location.now a.index_starts.now a.index_ends.now _ c.requires.0 _ _ c.mark_free.ensures c.place_limit-limit.ensures c.in_ok-free.free c.in_ok-free.was (sym c.entries_well.ensures ∙ c.if-entries_well.true) in
     omega (arith, live)
 
 pub returns-then-entries_well : goal.returns-then-entries_well
 returns-then-entries_well c =
     let a = c.args in
     let e = sym c.entries_well.ensures ∙ c.if-entries_well.true in (
-      entries_decide a.s a.reference_count.now a.location.now a.index_starts.now a.index_ends.now _ c.requires.0 _ _ _ c.mark_free-checked.ensures c.place_limit-limit.ensures c.if-checked.true e,
-      entries_pass a.s a.reference_count.now a.location.now a.index_starts.now a.index_ends.now _ c.requires.0 _ _ _ c.mark_free-checked.ensures c.place_limit-limit.ensures c.if-checked.true e,
+      entries_decide a.s a.reference_count.now a.location.now a.index_starts.now a.index_ends.now _ c.requires.0 _ _ c.mark_free.ensures c.place_limit-limit.ensures c.in_ok-free.free c.in_ok-free.was e,
+      entries_pass a.s a.reference_count.now a.location.now a.index_starts.now a.index_ends.now _ c.requires.0 _ _ c.mark_free.ensures c.place_limit-limit.ensures c.in_ok-free.free c.in_ok-free.was e,
     )
 
-pub returns-else-entries_well : goal.returns-else-entries_well
-returns-else-entries_well c =
+pub returns : goal.returns
+returns c =
     let a = c.args in
-    (entries_decide a.s a.reference_count.now a.location.now a.index_starts.now a.index_ends.now _ c.requires.0 _ _ _ c.mark_free-checked.ensures c.place_limit-limit.ensures c.if-checked.true (sym c.entries_well.ensures ∙ c.if-entries_well.false), tt)
+    (entries_decide a.s a.reference_count.now a.location.now a.index_starts.now a.index_ends.now _ c.requires.0 _ _ c.mark_free.ensures c.place_limit-limit.ensures c.in_ok-free.free c.in_ok-free.was (sym c.entries_well.ensures ∙ c.if-entries_well.false), tt)
 
-pub returns-else-checked : goal.returns-else-checked
-returns-else-checked c =
+pub returns-in_err-free : goal.returns-in_err-free
+returns-in_err-free c =
     let a = c.args in
-    (manager_fails a.s a.reference_count.now a.location.now a.index_starts.now a.index_ends.now _ c.requires.0 _ _ _ c.mark_free-checked.ensures c.place_limit-limit.ensures c.if-checked.false, tt)
+    rw c.from_residual.ensures (manager_fails a.s a.reference_count.now a.location.now a.index_starts.now a.index_ends.now _ c.requires.0 _ _ c.mark_free.ensures c.place_limit-limit.ensures c.in_err-free.was, tt)
