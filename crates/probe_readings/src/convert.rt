@@ -6,6 +6,7 @@ use float_bits::word_of_float;
 use probes_definitions::Reading;
 use terms::FloatBits;
 
+// As the C interface writes it.
 fn kind_of(reading: Reading) -> u8
     ensures { result ≡ kind_of reading }
 {
