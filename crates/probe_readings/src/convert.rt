@@ -6,6 +6,7 @@ use float_bits::word_of_float;
 use probes_definitions::Reading;
 use terms::FloatBits;
 
+// As the C interface writes it.
 fn kind_of(reading: Reading) -> u8
     ensures { result ≡ kind_of reading }
 {
@@ -32,11 +33,8 @@ pub fn kinds_of(set: [Reading; 8]) -> [u8; 8]
     ensures { (result ≡ kinds_of set) × (length set ≡ 8) }
 {
     let mut kinds = [0u8; 8];
-    let mut k = 0;
-    while k < 8 {
-        let reading = set[k];
-        kinds[k] = kind_of(reading);
-        k += 1;
+    for k in 0..8 {
+        kinds[k] = kind_of(set[k]);
     }
     kinds
 }
@@ -45,11 +43,8 @@ pub fn words_of(set: [Reading; 8]) -> [FloatBits; 8]
     ensures { result ≡ words_of set }
 {
     let mut words = [0u32; 8];
-    let mut k = 0;
-    while k < 8 {
-        let reading = set[k];
-        words[k] = word_in(reading);
-        k += 1;
+    for k in 0..8 {
+        words[k] = word_in(set[k]);
     }
     words
 }

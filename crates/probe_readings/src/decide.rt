@@ -6,6 +6,8 @@ ghost use Rattle.probe_readings.specs.Deciding.{set_asked};
 
 use terms::Refusal;
 
+// Kept: a kind is a byte, since the C interface lends eight of them, and one may be no kind at all. An enum here would be a second
+// pass that copies them.
 // The greatest kind: Absent.
 const ABSENT: u8 = 2;
 

@@ -19,7 +19,7 @@ pub fn is_accepted(answer: Added) -> bool
 fn estimate_of(kind: u8) -> u32
     ensures { result ≡ estimate_of kind }
 {
-    if kind == 1 { 1 } else { 0 }
+    (kind == 1) as u32
 }
 
 fn tallied(tallies: [u32; 8], kinds: &[u8]) -> [u32; 8]
@@ -27,10 +27,8 @@ fn tallied(tallies: [u32; 8], kinds: &[u8]) -> [u32; 8]
     ensures { result ≡ tallied_kinds kinds.now tallies }
 {
     let mut counted = [0u32; 8];
-    let mut k = 0;
-    while k < 8 {
+    for k in 0..8 {
         counted[k] = tallies[k] + estimate_of(kinds[k]);
-        k += 1;
     }
     counted
 }

@@ -1,6 +1,6 @@
 -- One turn of each loop, and the ways out of the check and of the reading.
-use Rattle.std.specs.Prelude.{ℕ, ◌+◌, ◌≤◌, ◌<◌, Bool, true, false, ◌&&◌, List, ◌≡◌, length, get_or, take, set}
-use Rattle.std.proofs.Common.{add-one, arith, sym, ◌∙◌, take-suc, take-suc-set, take_all}
+use Rattle.std.specs.Prelude.{ℕ, ◌+◌, ◌<◌, Bool, true, false, ◌&&◌, List, ◌≡◌, length}
+use Rattle.std.proofs.Common.{add-one, arith}
 use borrow.Author.Tests.{eq-eqb, ne_eqb}
 use Rattle.terms.specs.Below.{every_below}
 use Rattle.store_definitions.specs.Answers.{done, refused, output}
@@ -15,12 +15,6 @@ use Rattle.probes_definitions.specs.Tallies.{probes_form_decided, tallies_spec}
 pub every_more : (k : ℕ) (p : ℕ → Bool) → every_below (k + 1) p ≡ (every_below k p && p k)
 unfolding every_below
 every_more k p = rw (add-one k)
-
-pub copied_more : (ts out : List ℕ) (k : ℕ) → k < length ts → k < length out → take k out ≡ take k ts → take (k + 1) (set out k (get_or ts k 0)) ≡ take (k + 1) ts
-copied_more ts out k h g e = rw (add-one k, take-suc-set out k (get_or ts k 0) g, take-suc ts k 0 h, e)
-
-pub copied_all : (ts out : List ℕ) (k : ℕ) → length ts ≤ k → length out ≤ k → take k out ≡ take k ts → out ≡ ts
-copied_all ts out k h g e = sym (take_all k out g) ∙ e ∙ take_all k ts h
 
 -- ---- the check
 

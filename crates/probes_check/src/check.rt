@@ -23,10 +23,8 @@ fn tallies_within(sequence: u32, tallies: [u32; 8]) -> bool
     ensures { (result ≡ tallies_within sequence tallies) × (length tallies ≡ 8) }
 {
     let mut within = true;
-    let mut k = 0;
-    while k < 8 {
-        within = within & (tallies[k] <= sequence);
-        k += 1;
+    for k in 0..8 {
+        within &= tallies[k] <= sequence;
     }
     within
 }

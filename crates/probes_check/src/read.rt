@@ -14,11 +14,7 @@ fn copy_tallies(tallies: [u32; 8], out: &mut [u32])
     requires { length out.old ≡ 8 }
     ensures { out.new ≡ tallies }
 {
-    let mut k = 0;
-    while k < 8 {
-        out[k] = tallies[k];
-        k += 1;
-    }
+    out.copy_from_slice(&tallies);
 }
 
 // The output has exactly eight entries.

@@ -13,13 +13,10 @@ loop-k-preserved c =
     let l = c.loop-k in
     let n : length a.set ≡ 8 = search rules in
     let below = c.loop-k-test.true in (
-      omega (arith, below),
-      (
-        length-set l.kinds l.k _ ∙ l.invariant.1.0,
-        written_more (kinds_of a.set) l.kinds l.k _ (omega (arith, below, n, kinds_of_length a.set)) (omega (arith, below, l.invariant.1.0))
-            (c.kind_of.ensures ∙ sym (kinds_at _ a.set l.k (omega (arith, below, n))))
-            l.invariant.1.1,
-      ),
+      length-set l.kinds l.k _ ∙ l.invariant.0,
+      written_more (kinds_of a.set) l.kinds l.k _ (omega (arith, below, n, kinds_of_length a.set)) (omega (arith, below, l.invariant.0))
+          (c.kind_of.ensures ∙ sym (kinds_at _ a.set l.k (omega (arith, below, n))))
+          l.invariant.1,
     )
 
 pub returns : goal.returns
@@ -28,4 +25,4 @@ returns c =
     let l = c.loop-k in
     let n : length a.set ≡ 8 = search rules in
     let past = c.loop-k-test.false in
-    (written_all (kinds_of a.set) l.kinds l.k (omega (arith, past, n, kinds_of_length a.set)) (omega (arith, past, l.invariant.1.0)) l.invariant.1.1, n)
+    (written_all (kinds_of a.set) l.kinds l.k (omega (arith, past, n, kinds_of_length a.set)) (omega (arith, past, l.invariant.0)) l.invariant.1, n)

@@ -13,13 +13,10 @@ loop-k-preserved c =
     let l = c.loop-k in
     let n : length a.set ≡ 8 = search rules in
     let below = c.loop-k-test.true in (
-      omega (arith, below),
-      (
-        length-set l.words l.k _ ∙ l.invariant.1.0,
-        written_more (words_of a.set) l.words l.k _ (omega (arith, below, n, words_of_length a.set)) (omega (arith, below, l.invariant.1.0))
-            (c.word_in.ensures ∙ sym (words_at _ a.set l.k (omega (arith, below, n))))
-            l.invariant.1.1,
-      ),
+      length-set l.words l.k _ ∙ l.invariant.0,
+      written_more (words_of a.set) l.words l.k _ (omega (arith, below, n, words_of_length a.set)) (omega (arith, below, l.invariant.0))
+          (c.word_in.ensures ∙ sym (words_at _ a.set l.k (omega (arith, below, n))))
+          l.invariant.1,
     )
 
 pub returns : goal.returns
@@ -28,4 +25,4 @@ returns c =
     let l = c.loop-k in
     let n : length a.set ≡ 8 = search rules in
     let past = c.loop-k-test.false in
-    written_all (words_of a.set) l.words l.k (omega (arith, past, n, words_of_length a.set)) (omega (arith, past, l.invariant.1.0)) l.invariant.1.1
+    written_all (words_of a.set) l.words l.k (omega (arith, past, n, words_of_length a.set)) (omega (arith, past, l.invariant.0)) l.invariant.1
