@@ -13,9 +13,10 @@ ghost use Rattle.point_store_c.specs.HoldRecords.{hold_in};
 use crate::answers::{added_out, done_number, number_out};
 use crate::hold_record::{HOLD_WORDS, hold_in, hold_out, hold_write};
 use crate::opening::shape_in;
-use hold_definitions::HoldDoneResult;
+use labels::LabelTables;
+use hold_definitions::Hold;
 use store_check::bounds_hold;
-use store_definitions::{Done, Shape};
+use store_definitions::{Shape, Tables};
 use terms::Refusal;
 
 // The refusal of a record that is too short: the shape is looked at first, then the width.
@@ -33,15 +34,13 @@ fn short_hold(shape: Shape, width: usize) -> u64
 }
 
 // A refused opening leaves the record.
-fn opened_hold_out(words: &mut [u64], res: HoldDoneResult) -> u64
+fn opened_hold_out(words: &mut [u64], answer: Result<Hold, Refusal>) -> u64
     requires { 41 ≤ length words.old }
-    ensures { (result ≡ returned (done_means res.answer)) × (words.new ≡ hold_opened_words words.old (done_means res.answer) res.hold) }
+    ensures { (result ≡ returned (hold_opened_means answer)) × (words.new ≡ hold_opened_words words.old (hold_opened_means answer) (opened_hold answer)) }
 {
-    let answer = res.answer;
     match answer {
-        Done::Refused(why) => u64::from(why),
-        Done::Done => {
-            let h = res.hold;
+        Err(why) => u64::from(why),
+        Ok(h) => {
             hold_write(words, h);
             0
         }
@@ -148,9 +147,9 @@ pub extern "C" fn ps_hold_add(
 ) -> u64
     ensures { hold_exported result words.new (kept.new ∷ index.new ∷ label_index.new ∷ joined.new ∷ place.new ∷ free_indices.new ∷ []) (hold_held store.new last_known_shingle.new reference_count.new location.new index_starts.new index_ends.new labels.new label_attributes.new label_count.new label_starts.new label_ends.new attributes.new attribute_count.new attribute_starts.new attribute_ends.new held_indices.new held_labels.new) ≡ hold_exported_call words.old (kept.old ∷ index.old ∷ label_index.old ∷ joined.old ∷ place.old ∷ free_indices.old ∷ []) (hold_add_spec words_equal 0 (point_hold (hold_in words.old) (hold_held store.old last_known_shingle.old reference_count.old location.old index_starts.old index_ends.old labels.old label_attributes.old label_count.old label_starts.old label_ends.old attributes.old attribute_count.old attribute_starts.old attribute_ends.old held_indices.old held_labels.old)) point.now label) }
 {
-    let h = hold_in(words);
-    let result = hold::add(
-        h,
+    let mut h = hold_in(words);
+    let answer = hold::add(
+        &mut h,
         store,
         last_known_shingle,
         reference_count,
@@ -171,9 +170,7 @@ pub extern "C" fn ps_hold_add(
         point,
         label,
     );
-    let after = result.hold;
-    let answer = result.answer;
-    hold_out(words, after);
+    hold_out(words, h);
     added_out(
         answer,
         kept,
@@ -211,23 +208,28 @@ pub extern "C" fn ps_hold_held(
     ensures { written result out.new ≡ exported_output (held_spec (point_hold (hold_in words.now) (hold_held store.now last_known_shingle.now reference_count.now location.now index_starts.now index_ends.now labels.now label_attributes.now label_count.now label_starts.now label_ends.now attributes.now attribute_count.now attribute_starts.now attribute_ends.now held_indices.now held_labels.now)) out.old) }
 {
     let h = hold_in(words);
-    let answer = hold_check::held(
-        h,
-        store,
-        last_known_shingle,
+    let tables = Tables {
         reference_count,
         location,
         index_starts,
         index_ends,
-        labels,
-        label_attributes,
-        label_count,
-        label_starts,
-        label_ends,
-        attributes,
-        attribute_count,
-        attribute_starts,
-        attribute_ends,
+        label_tables: LabelTables {
+            labels,
+            label_attributes,
+            label_count,
+            label_starts,
+            label_ends,
+            attributes,
+            attribute_count,
+            attribute_starts,
+            attribute_ends,
+        },
+    };
+    let answer = hold_check::held(
+        h,
+        store,
+        last_known_shingle,
+        tables,
         held_indices,
         held_labels,
         out,
@@ -261,23 +263,28 @@ pub extern "C" fn ps_hold_number(
     ensures { read result (number.new ∷ []) ≡ exported_reading (number.old ∷ []) (held_number_spec (point_hold (hold_in words.now) (hold_held store.now last_known_shingle.now reference_count.now location.now index_starts.now index_ends.now labels.now label_attributes.now label_count.now label_starts.now label_ends.now attributes.now attribute_count.now attribute_starts.now attribute_ends.now held_indices.now held_labels.now))) }
 {
     let h = hold_in(words);
-    let answer = hold_check::held_number(
-        h,
-        store,
-        last_known_shingle,
+    let tables = Tables {
         reference_count,
         location,
         index_starts,
         index_ends,
-        labels,
-        label_attributes,
-        label_count,
-        label_starts,
-        label_ends,
-        attributes,
-        attribute_count,
-        attribute_starts,
-        attribute_ends,
+        label_tables: LabelTables {
+            labels,
+            label_attributes,
+            label_count,
+            label_starts,
+            label_ends,
+            attributes,
+            attribute_count,
+            attribute_starts,
+            attribute_ends,
+        },
+    };
+    let answer = hold_check::held_number(
+        h,
+        store,
+        last_known_shingle,
+        tables,
         held_indices,
         held_labels,
     );

@@ -8,6 +8,8 @@ ghost use Rattle.point_store_c.specs.Records.{store_in};
 
 use crate::answers::{done_number, number_out};
 use crate::record::store_in;
+use labels::LabelTables;
+use store_definitions::Tables;
 use terms::LabelIndex;
 
 #[unsafe(no_mangle)]
@@ -35,23 +37,28 @@ pub extern "C" fn ps_label(
 {
     let s = store_in(words);
     let label = LabelIndex(label);
-    let answer = store_readings::label(
-        s,
-        store,
-        last_known_shingle,
+    let tables = Tables {
         reference_count,
         location,
         index_starts,
         index_ends,
-        labels,
-        label_attributes,
-        label_count,
-        label_starts,
-        label_ends,
-        attributes,
-        attribute_count,
-        attribute_starts,
-        attribute_ends,
+        label_tables: LabelTables {
+            labels,
+            label_attributes,
+            label_count,
+            label_starts,
+            label_ends,
+            attributes,
+            attribute_count,
+            attribute_starts,
+            attribute_ends,
+        },
+    };
+    let answer = store_readings::label(
+        s,
+        store,
+        last_known_shingle,
+        tables,
         label,
     );
     number_out(answer, code)
@@ -82,23 +89,28 @@ pub extern "C" fn ps_attribute(
 {
     let s = store_in(words);
     let label = LabelIndex(label);
-    let answer = store_readings::attribute(
-        s,
-        store,
-        last_known_shingle,
+    let tables = Tables {
         reference_count,
         location,
         index_starts,
         index_ends,
-        labels,
-        label_attributes,
-        label_count,
-        label_starts,
-        label_ends,
-        attributes,
-        attribute_count,
-        attribute_starts,
-        attribute_ends,
+        label_tables: LabelTables {
+            labels,
+            label_attributes,
+            label_count,
+            label_starts,
+            label_ends,
+            attributes,
+            attribute_count,
+            attribute_starts,
+            attribute_ends,
+        },
+    };
+    let answer = store_readings::attribute(
+        s,
+        store,
+        last_known_shingle,
+        tables,
         label,
     );
     number_out(answer, class)
@@ -129,23 +141,28 @@ pub extern "C" fn ps_attribute_vec(
 {
     let s = store_in(words);
     let label = LabelIndex(label);
-    let answer = store_readings::attribute_vec(
-        s,
-        store,
-        last_known_shingle,
+    let tables = Tables {
         reference_count,
         location,
         index_starts,
         index_ends,
-        labels,
-        label_attributes,
-        label_count,
-        label_starts,
-        label_ends,
-        attributes,
-        attribute_count,
-        attribute_starts,
-        attribute_ends,
+        label_tables: LabelTables {
+            labels,
+            label_attributes,
+            label_count,
+            label_starts,
+            label_ends,
+            attributes,
+            attribute_count,
+            attribute_starts,
+            attribute_ends,
+        },
+    };
+    let answer = store_readings::attribute_vec(
+        s,
+        store,
+        last_known_shingle,
+        tables,
         label,
         out,
     );

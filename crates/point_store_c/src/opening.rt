@@ -1,12 +1,13 @@
 // Opening a store.
 ghost use Rattle.std.specs.Prelude.{◌≡◌, ◌≤◌, [], length};
-ghost use Rattle.store_definitions.specs.Answers.{done_means};
+ghost use Rattle.store_definitions.specs.Answers.{opened_means};
 ghost use Rattle.store_definitions.specs.Lent.{held};
+ghost use Rattle.store_definitions.specs.Opening.{opened_store};
 ghost use Rattle.point_store_c.specs.ExportedStore.{returned, opened_words, exported, shape_in, short_record, exported_opening};
 
 use crate::record::{RECORD_WORDS, record_write};
 use store_check::bounds_hold;
-use store_definitions::{Done, DoneResult, Shape};
+use store_definitions::{Shape, Store};
 use terms::Refusal;
 
 // What a flag above 1 stands for: a shape of zeros, which is outside the bounds.
@@ -55,15 +56,13 @@ fn short_record(shape: Shape) -> u64
 }
 
 // A refused opening leaves the record.
-fn opened_out(words: &mut [u64], res: DoneResult) -> u64
+fn opened_out(words: &mut [u64], answer: Result<Store, Refusal>) -> u64
     requires { 39 ≤ length words.old }
-    ensures { (result ≡ returned (done_means res.answer)) × (words.new ≡ opened_words words.old (done_means res.answer) res.store) }
+    ensures { (result ≡ returned (opened_means answer)) × (words.new ≡ opened_words words.old (opened_means answer) (opened_store answer)) }
 {
-    let answer = res.answer;
     match answer {
-        Done::Refused(why) => u64::from(why),
-        Done::Done => {
-            let s = res.store;
+        Err(why) => u64::from(why),
+        Ok(s) => {
             record_write(words, s);
             0
         }

@@ -14,10 +14,11 @@ ghost use Rattle.point_store_c.specs.ProbesRecords.{probes_in};
 use crate::answers::{added_out, done_number};
 use crate::opening::shape_in;
 use crate::probes_record::{PROBES_WORDS, probes_in, probes_out, probes_write};
+use labels::LabelTables;
 use probes_check::eight_probes;
-use probes_definitions::ProbesDoneResult;
+use probes_definitions::Probes;
 use store_check::bounds_hold;
-use store_definitions::{Done, Shape};
+use store_definitions::{Shape, Tables};
 use terms::Refusal;
 
 // The refusal of a record that is too short: the shape is looked at first.
@@ -39,15 +40,13 @@ fn short_probes(shape: Shape) -> u64
 }
 
 // A refused opening leaves the record.
-fn opened_probes_out(words: &mut [u64], res: ProbesDoneResult) -> u64
+fn opened_probes_out(words: &mut [u64], answer: Result<Probes, Refusal>) -> u64
     requires { 47 ≤ length words.old }
-    ensures { (result ≡ returned (done_means res.answer)) × (words.new ≡ probes_opened_words words.old (done_means res.answer) res.probes) }
+    ensures { (result ≡ returned (probes_opened_means answer)) × (words.new ≡ probes_opened_words words.old (probes_opened_means answer) (opened_probes answer)) }
 {
-    let answer = res.answer;
     match answer {
-        Done::Refused(why) => u64::from(why),
-        Done::Done => {
-            let p = res.probes;
+        Err(why) => u64::from(why),
+        Ok(p) => {
             probes_write(words, p);
             0
         }
@@ -148,9 +147,9 @@ pub extern "C" fn ps_probes_set(
 ) -> u64
     ensures { exported result words.new (kept.new ∷ index.new ∷ label_index.new ∷ joined.new ∷ place.new ∷ free_indices.new ∷ []) (held store.new last_known_shingle.new reference_count.new location.new index_starts.new index_ends.new labels.new label_attributes.new label_count.new label_starts.new label_ends.now attributes.new attribute_count.new attribute_starts.new attribute_ends.now) ≡ probes_exported_call words.old (kept.old ∷ index.old ∷ label_index.old ∷ joined.old ∷ place.old ∷ free_indices.old ∷ []) (set_kinds_spec words_equal 0 (point_probes (probes_in words.old) (held store.old last_known_shingle.old reference_count.old location.old index_starts.old index_ends.old labels.old label_attributes.old label_count.old label_starts.old label_ends.now attributes.old attribute_count.old attribute_starts.old attribute_ends.now)) kinds.now floats.now label) }
 {
-    let p = probes_in(words);
-    let result = probes::set_words(
-        p,
+    let mut p = probes_in(words);
+    let answer = probes::set_words(
+        &mut p,
         store,
         last_known_shingle,
         reference_count,
@@ -170,9 +169,7 @@ pub extern "C" fn ps_probes_set(
         floats,
         label,
     );
-    let after = result.probes;
-    let answer = result.answer;
-    probes_out(words, after);
+    probes_out(words, p);
     added_out(
         answer,
         kept,
@@ -208,23 +205,28 @@ pub extern "C" fn ps_probes_tallies(
     ensures { written result out.new ≡ exported_output (tallies_spec (point_probes (probes_in words.now) (held store.now last_known_shingle.now reference_count.now location.now index_starts.now index_ends.now labels.now label_attributes.now label_count.now label_starts.now label_ends.now attributes.now attribute_count.now attribute_starts.now attribute_ends.now)) out.old) }
 {
     let p = probes_in(words);
-    let answer = probes_check::tallies(
-        p,
-        store,
-        last_known_shingle,
+    let tables = Tables {
         reference_count,
         location,
         index_starts,
         index_ends,
-        labels,
-        label_attributes,
-        label_count,
-        label_starts,
-        label_ends,
-        attributes,
-        attribute_count,
-        attribute_starts,
-        attribute_ends,
+        label_tables: LabelTables {
+            labels,
+            label_attributes,
+            label_count,
+            label_starts,
+            label_ends,
+            attributes,
+            attribute_count,
+            attribute_starts,
+            attribute_ends,
+        },
+    };
+    let answer = probes_check::tallies(
+        p,
+        store,
+        last_known_shingle,
+        tables,
         out,
     );
     done_number(answer)

@@ -13,7 +13,8 @@ ghost use Rattle.point_store_c.specs.Records.{store_in};
 
 use crate::answers::{done_number, equality_out};
 use crate::record::store_in;
-use store_definitions::Item;
+use labels::LabelTables;
+use store_definitions::{Item, Tables};
 use terms::PointIndex;
 
 // 1 where the row's copy and the point are equal, else 0.
@@ -43,23 +44,28 @@ pub extern "C" fn ps_is_equal(
 {
     let s = store_in(words);
     let index = PointIndex(index);
-    let answer = store_readings::is_equal(
-        s,
-        store,
-        last_known_shingle,
+    let tables = Tables {
         reference_count,
         location,
         index_starts,
         index_ends,
-        labels,
-        label_attributes,
-        label_count,
-        label_starts,
-        label_ends,
-        attributes,
-        attribute_count,
-        attribute_starts,
-        attribute_ends,
+        label_tables: LabelTables {
+            labels,
+            label_attributes,
+            label_count,
+            label_starts,
+            label_ends,
+            attributes,
+            attribute_count,
+            attribute_starts,
+            attribute_ends,
+        },
+    };
+    let answer = store_readings::is_equal(
+        s,
+        store,
+        last_known_shingle,
+        tables,
         index,
         point,
     );
@@ -91,23 +97,28 @@ pub extern "C" fn ps_point_sum(
     ensures { written result out.new ≡ exported_output (point_sum_spec add_scaled (float_of plus_zero) (point_store (store_in words.now) (held store.now last_known_shingle.now reference_count.now location.now index_starts.now index_ends.now labels.now label_attributes.now label_count.now label_starts.now label_ends.now attributes.now attribute_count.now attribute_starts.now attribute_ends.now)) (weightings_of items.now) out.old) }
 {
     let s = store_in(words);
-    let answer = store_sum_items::point_sum(
-        s,
-        store,
-        last_known_shingle,
+    let tables = Tables {
         reference_count,
         location,
         index_starts,
         index_ends,
-        labels,
-        label_attributes,
-        label_count,
-        label_starts,
-        label_ends,
-        attributes,
-        attribute_count,
-        attribute_starts,
-        attribute_ends,
+        label_tables: LabelTables {
+            labels,
+            label_attributes,
+            label_count,
+            label_starts,
+            label_ends,
+            attributes,
+            attribute_count,
+            attribute_starts,
+            attribute_ends,
+        },
+    };
+    let answer = store_sum_items::point_sum(
+        s,
+        store,
+        last_known_shingle,
+        tables,
         items,
         out,
     );
@@ -138,23 +149,28 @@ pub extern "C" fn ps_shingled_point(
     ensures { written result out.new ≡ exported_output (shingled_point_spec (point_store (store_in words.now) (held store.now last_known_shingle.now reference_count.now location.now index_starts.now index_ends.now labels.now label_attributes.now label_count.now label_starts.now label_ends.now attributes.now attribute_count.now attribute_starts.now attribute_ends.now)) point.now out.old) }
 {
     let s = store_in(words);
-    let answer = store_readings::shingled_point(
-        s,
-        store,
-        last_known_shingle,
+    let tables = Tables {
         reference_count,
         location,
         index_starts,
         index_ends,
-        labels,
-        label_attributes,
-        label_count,
-        label_starts,
-        label_ends,
-        attributes,
-        attribute_count,
-        attribute_starts,
-        attribute_ends,
+        label_tables: LabelTables {
+            labels,
+            label_attributes,
+            label_count,
+            label_starts,
+            label_ends,
+            attributes,
+            attribute_count,
+            attribute_starts,
+            attribute_ends,
+        },
+    };
+    let answer = store_readings::shingled_point(
+        s,
+        store,
+        last_known_shingle,
+        tables,
         point,
         out,
     );
@@ -186,23 +202,28 @@ pub extern "C" fn ps_missing_indices(
     ensures { written result out.new ≡ exported_output (missing_indices_spec (point_store (store_in words.now) (held store.now last_known_shingle.now reference_count.now location.now index_starts.now index_ends.now labels.now label_attributes.now label_count.now label_starts.now label_ends.now attributes.now attribute_count.now attribute_starts.now attribute_ends.now)) look_ahead values.now out.old) }
 {
     let s = store_in(words);
-    let answer = store_readings::missing_indices(
-        s,
-        store,
-        last_known_shingle,
+    let tables = Tables {
         reference_count,
         location,
         index_starts,
         index_ends,
-        labels,
-        label_attributes,
-        label_count,
-        label_starts,
-        label_ends,
-        attributes,
-        attribute_count,
-        attribute_starts,
-        attribute_ends,
+        label_tables: LabelTables {
+            labels,
+            label_attributes,
+            label_count,
+            label_starts,
+            label_ends,
+            attributes,
+            attribute_count,
+            attribute_starts,
+            attribute_ends,
+        },
+    };
+    let answer = store_readings::missing_indices(
+        s,
+        store,
+        last_known_shingle,
+        tables,
         look_ahead,
         values,
         out,
@@ -234,23 +255,28 @@ pub extern "C" fn ps_next_indices(
     ensures { written result out.new ≡ exported_output (next_indices_spec (point_store (store_in words.now) (held store.now last_known_shingle.now reference_count.now location.now index_starts.now index_ends.now labels.now label_attributes.now label_count.now label_starts.now label_ends.now attributes.now attribute_count.now attribute_starts.now attribute_ends.now)) look_ahead out.old) }
 {
     let s = store_in(words);
-    let answer = store_readings::next_indices(
-        s,
-        store,
-        last_known_shingle,
+    let tables = Tables {
         reference_count,
         location,
         index_starts,
         index_ends,
-        labels,
-        label_attributes,
-        label_count,
-        label_starts,
-        label_ends,
-        attributes,
-        attribute_count,
-        attribute_starts,
-        attribute_ends,
+        label_tables: LabelTables {
+            labels,
+            label_attributes,
+            label_count,
+            label_starts,
+            label_ends,
+            attributes,
+            attribute_count,
+            attribute_starts,
+            attribute_ends,
+        },
+    };
+    let answer = store_readings::next_indices(
+        s,
+        store,
+        last_known_shingle,
+        tables,
         look_ahead,
         out,
     );

@@ -2,10 +2,10 @@
 use Rattle.point_store_c.specs.ExportedStore.{exported_reading}
 use Rattle.point_store_c.proofs.answers.added_out.Goals as goal
 
-pub returns-in-Refused : goal.returns-in-Refused
+pub returns-in-Err : goal.returns-in-Err
 unfolding exported_reading
-returns-in-Refused c =
-    rw (c.in-Refused.is, c.from.ensures)
+returns-in-Err c =
+    rw (c.in-Err.is, c.from.ensures)
 
 pub returns-in-Waiting : goal.returns-in-Waiting
 unfolding exported_reading

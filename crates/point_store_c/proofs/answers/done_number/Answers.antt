@@ -2,11 +2,11 @@
 use Rattle.point_store_c.specs.ExportedStore.{exported_reading}
 use Rattle.point_store_c.proofs.answers.done_number.Goals as goal
 
-pub returns-in-Done : goal.returns-in-Done
+pub returns-in-Ok : goal.returns-in-Ok
 unfolding exported_reading
-returns-in-Done c = rw c.in-Done.is
+returns-in-Ok c = rw c.in-Ok.is
 
-pub returns-in-Refused : goal.returns-in-Refused
+pub returns-in-Err : goal.returns-in-Err
 unfolding exported_reading
-returns-in-Refused c =
-    rw (c.in-Refused.is, c.from.ensures)
+returns-in-Err c =
+    rw (c.in-Err.is, c.from.ensures)

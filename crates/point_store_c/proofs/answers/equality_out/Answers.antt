@@ -3,12 +3,12 @@ use Rattle.point_store_c.specs.ExportedStore.{exported_reading}
 use Rattle.point_store_c.specs.ExportedLaws.{cast_one}
 use Rattle.point_store_c.proofs.answers.equality_out.Goals as goal
 
-pub returns-in-Refused : goal.returns-in-Refused
+pub returns-in-Err : goal.returns-in-Err
 unfolding exported_reading
-returns-in-Refused c =
-    rw (c.in-Refused.is, c.from.ensures)
+returns-in-Err c =
+    rw (c.in-Err.is, c.from.ensures)
 
-pub returns-in-Is : goal.returns-in-Is
+pub returns-in-Ok : goal.returns-in-Ok
 unfolding exported_reading
-returns-in-Is c =
-    rw (c.in-Is.is, cast_one c.in-Is.b)
+returns-in-Ok c =
+    rw (c.in-Ok.is, cast_one c.in-Ok.b)

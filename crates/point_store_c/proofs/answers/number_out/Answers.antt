@@ -2,11 +2,11 @@
 use Rattle.point_store_c.specs.ExportedStore.{exported_reading}
 use Rattle.point_store_c.proofs.answers.number_out.Goals as goal
 
-pub returns-in-Refused : goal.returns-in-Refused
+pub returns-in-Err : goal.returns-in-Err
 unfolding exported_reading
-returns-in-Refused c =
-    rw (c.in-Refused.is, c.from.ensures)
+returns-in-Err c =
+    rw (c.in-Err.is, c.from.ensures)
 
-pub returns-in-Is : goal.returns-in-Is
+pub returns-in-Ok : goal.returns-in-Ok
 unfolding exported_reading
-returns-in-Is c = rw c.in-Is.is
+returns-in-Ok c = rw c.in-Ok.is
