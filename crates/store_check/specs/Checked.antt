@@ -6,13 +6,16 @@ use Rattle.std.specs.Option.{ok_or}
 use Rattle.labels.specs.declared.LabelsFree.{LabelsFree}
 use Rattle.label_check.specs.Checked.{free_in}
 use Rattle.store_definitions.specs.declared.Store.{Store}
+use Rattle.store_definitions.specs.declared.tables.Tables.{Tables}
 use Rattle.store_definitions.specs.Memory.{Memory, PointStore, point_store}
+use Rattle.store_definitions.specs.Lent.{lent}
 use Rattle.store_definitions.specs.Parts.{table_length, label_half}
 use Rattle.store_definitions.specs.WellFormed.{well_formed}
 use Rattle.store_check.specs.declared.Figures.{Figures}
 use Rattle.store_check.specs.CheckLaws.{elementless, well_formed_lengths}
 use Rattle.store_check.specs.Entries.{counts_live}
 use Rattle.store_check.specs.Figures.{FiguresOf}
+use Rattle.store_check.specs.Tables.{tables_lent}
 
 -- with labels off the free label indices and slots are not counted
 abbrev pub figures_in : {E : Type 0} → PointStore E → Figures
@@ -57,3 +60,22 @@ checked_ok p (Some x) why f e g = let h : x ≡ f = cc in checked_some p f (sym 
 pub checked_err : {E : Type 0} (p : PointStore E) (answer : Option Figures) (why other : Refusal) → answer ≡ checked p → ok_or answer why ≡ Err other → (well_formed p ≡ false) × (other ≡ why)
 checked_err p None why other e g = (checked_none p (sym e), cc)
 checked_err p (Some x) why other e g = cc
+
+-- what a call learns of the store with its elements from its check of the lent tables
+module _ {E : Type 0} (s : Store) (m : Memory E) (answer : Option Figures) (why : Refusal) (a : answer ≡ checked (point_store s (elementless m))) where
+  pub check_passed : (f : Figures) → ok_or answer why ≡ Ok f → (well_formed (point_store s m) ≡ true) × FiguresOf f (point_store s m)
+  check_passed f e = checked_ok (point_store s m) answer why f (a ∙ checked_lengths s m) e
+
+  pub check_failed : (other : Refusal) → ok_or answer why ≡ Err other → (well_formed (point_store s m) ≡ false) × (other ≡ why)
+  check_failed other e = checked_err (point_store s m) answer why other (a ∙ checked_lengths s m) e
+
+-- the same of a call that writes, whose slices are lent to the check as one value
+pub lent_checked : (s : Store) (m : Memory ℕ) (t : Tables) (answer : Option Figures) → lent m.store m.last_known_shingle t ≡ m → answer ≡ checked (point_store s (tables_lent (length m.store) (length m.last_known_shingle) t)) → answer ≡ checked (point_store s (elementless m))
+lent_checked s m t answer e a = a ∙ ap (λ (n : Memory ℕ). checked (point_store s (elementless n))) e
+
+module _ (s : Store) (m : Memory ℕ) (t : Tables) (answer : Option Figures) (why : Refusal) (e : lent m.store m.last_known_shingle t ≡ m) (a : answer ≡ checked (point_store s (tables_lent (length m.store) (length m.last_known_shingle) t))) where
+  pub lent_passed : (f : Figures) → ok_or answer why ≡ Ok f → (well_formed (point_store s m) ≡ true) × FiguresOf f (point_store s m)
+  lent_passed f o = check_passed s m answer why (lent_checked s m t answer e a) f o
+
+  pub lent_failed : (other : Refusal) → ok_or answer why ≡ Err other → (well_formed (point_store s m) ≡ false) × (other ≡ why)
+  lent_failed other o = check_failed s m answer why (lent_checked s m t answer e a) other o
