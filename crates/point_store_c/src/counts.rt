@@ -9,7 +9,6 @@ ghost use Rattle.point_store_c.specs.Records.{store_in};
 
 use crate::answers::{adjusted_out, done_number, number_out};
 use crate::record::{store_in, store_out};
-use labels::LabelTables;
 use store_definitions::{Pair, Tables};
 use terms::{LabelIndex, PointIndex};
 
@@ -185,23 +184,21 @@ pub extern "C" fn ps_count(
 {
     let s = store_in(words);
     let index = PointIndex(index);
-    let tables = Tables {
+    let tables = Tables::new(
         reference_count,
         location,
         index_starts,
         index_ends,
-        label_tables: LabelTables {
-            labels,
-            label_attributes,
-            label_count,
-            label_starts,
-            label_ends,
-            attributes,
-            attribute_count,
-            attribute_starts,
-            attribute_ends,
-        },
-    };
+        labels,
+        label_attributes,
+        label_count,
+        label_starts,
+        label_ends,
+        attributes,
+        attribute_count,
+        attribute_starts,
+        attribute_ends,
+    );
     let answer = store_counts::count(
         s,
         store,
@@ -235,23 +232,21 @@ pub extern "C" fn ps_live_number(
     ensures { read result (number.new ∷ []) ≡ exported_reading (number.old ∷ []) (live_number_spec (point_store (store_in words.now) (held store.now last_known_shingle.now reference_count.now location.now index_starts.now index_ends.now labels.now label_attributes.now label_count.now label_starts.now label_ends.now attributes.now attribute_count.now attribute_starts.now attribute_ends.now))) }
 {
     let s = store_in(words);
-    let tables = Tables {
+    let tables = Tables::new(
         reference_count,
         location,
         index_starts,
         index_ends,
-        label_tables: LabelTables {
-            labels,
-            label_attributes,
-            label_count,
-            label_starts,
-            label_ends,
-            attributes,
-            attribute_count,
-            attribute_starts,
-            attribute_ends,
-        },
-    };
+        labels,
+        label_attributes,
+        label_count,
+        label_starts,
+        label_ends,
+        attributes,
+        attribute_count,
+        attribute_starts,
+        attribute_ends,
+    );
     let answer = store_counts::live_number(
         s,
         store,
@@ -284,23 +279,21 @@ pub extern "C" fn ps_free_start(
     ensures { read result (number.new ∷ []) ≡ exported_reading (number.old ∷ []) (free_start_spec (point_store (store_in words.now) (held store.now last_known_shingle.now reference_count.now location.now index_starts.now index_ends.now labels.now label_attributes.now label_count.now label_starts.now label_ends.now attributes.now attribute_count.now attribute_starts.now attribute_ends.now))) }
 {
     let s = store_in(words);
-    let tables = Tables {
+    let tables = Tables::new(
         reference_count,
         location,
         index_starts,
         index_ends,
-        label_tables: LabelTables {
-            labels,
-            label_attributes,
-            label_count,
-            label_starts,
-            label_ends,
-            attributes,
-            attribute_count,
-            attribute_starts,
-            attribute_ends,
-        },
-    };
+        labels,
+        label_attributes,
+        label_count,
+        label_starts,
+        label_ends,
+        attributes,
+        attribute_count,
+        attribute_starts,
+        attribute_ends,
+    );
     let answer = store_counts::free_start(
         s,
         store,

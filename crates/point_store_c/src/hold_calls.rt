@@ -13,7 +13,6 @@ ghost use Rattle.point_store_c.specs.HoldRecords.{hold_in};
 use crate::answers::{added_out, done_number, number_out};
 use crate::hold_record::{HOLD_WORDS, hold_in, hold_out, hold_write};
 use crate::opening::shape_in;
-use labels::LabelTables;
 use hold_definitions::Hold;
 use store_check::bounds_hold;
 use store_definitions::{Shape, Tables};
@@ -208,23 +207,21 @@ pub extern "C" fn ps_hold_held(
     ensures { written result out.new ≡ exported_output (held_spec (point_hold (hold_in words.now) (hold_held store.now last_known_shingle.now reference_count.now location.now index_starts.now index_ends.now labels.now label_attributes.now label_count.now label_starts.now label_ends.now attributes.now attribute_count.now attribute_starts.now attribute_ends.now held_indices.now held_labels.now)) out.old) }
 {
     let h = hold_in(words);
-    let tables = Tables {
+    let tables = Tables::new(
         reference_count,
         location,
         index_starts,
         index_ends,
-        label_tables: LabelTables {
-            labels,
-            label_attributes,
-            label_count,
-            label_starts,
-            label_ends,
-            attributes,
-            attribute_count,
-            attribute_starts,
-            attribute_ends,
-        },
-    };
+        labels,
+        label_attributes,
+        label_count,
+        label_starts,
+        label_ends,
+        attributes,
+        attribute_count,
+        attribute_starts,
+        attribute_ends,
+    );
     let answer = hold_check::held(
         h,
         store,
@@ -263,23 +260,21 @@ pub extern "C" fn ps_hold_number(
     ensures { read result (number.new ∷ []) ≡ exported_reading (number.old ∷ []) (held_number_spec (point_hold (hold_in words.now) (hold_held store.now last_known_shingle.now reference_count.now location.now index_starts.now index_ends.now labels.now label_attributes.now label_count.now label_starts.now label_ends.now attributes.now attribute_count.now attribute_starts.now attribute_ends.now held_indices.now held_labels.now))) }
 {
     let h = hold_in(words);
-    let tables = Tables {
+    let tables = Tables::new(
         reference_count,
         location,
         index_starts,
         index_ends,
-        label_tables: LabelTables {
-            labels,
-            label_attributes,
-            label_count,
-            label_starts,
-            label_ends,
-            attributes,
-            attribute_count,
-            attribute_starts,
-            attribute_ends,
-        },
-    };
+        labels,
+        label_attributes,
+        label_count,
+        label_starts,
+        label_ends,
+        attributes,
+        attribute_count,
+        attribute_starts,
+        attribute_ends,
+    );
     let answer = hold_check::held_number(
         h,
         store,

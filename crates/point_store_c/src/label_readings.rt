@@ -8,7 +8,6 @@ ghost use Rattle.point_store_c.specs.Records.{store_in};
 
 use crate::answers::{done_number, number_out};
 use crate::record::store_in;
-use labels::LabelTables;
 use store_definitions::Tables;
 use terms::LabelIndex;
 
@@ -37,23 +36,21 @@ pub extern "C" fn ps_label(
 {
     let s = store_in(words);
     let label = LabelIndex(label);
-    let tables = Tables {
+    let tables = Tables::new(
         reference_count,
         location,
         index_starts,
         index_ends,
-        label_tables: LabelTables {
-            labels,
-            label_attributes,
-            label_count,
-            label_starts,
-            label_ends,
-            attributes,
-            attribute_count,
-            attribute_starts,
-            attribute_ends,
-        },
-    };
+        labels,
+        label_attributes,
+        label_count,
+        label_starts,
+        label_ends,
+        attributes,
+        attribute_count,
+        attribute_starts,
+        attribute_ends,
+    );
     let answer = store_readings::label(
         s,
         store,
@@ -89,23 +86,21 @@ pub extern "C" fn ps_attribute(
 {
     let s = store_in(words);
     let label = LabelIndex(label);
-    let tables = Tables {
+    let tables = Tables::new(
         reference_count,
         location,
         index_starts,
         index_ends,
-        label_tables: LabelTables {
-            labels,
-            label_attributes,
-            label_count,
-            label_starts,
-            label_ends,
-            attributes,
-            attribute_count,
-            attribute_starts,
-            attribute_ends,
-        },
-    };
+        labels,
+        label_attributes,
+        label_count,
+        label_starts,
+        label_ends,
+        attributes,
+        attribute_count,
+        attribute_starts,
+        attribute_ends,
+    );
     let answer = store_readings::attribute(
         s,
         store,
@@ -141,23 +136,21 @@ pub extern "C" fn ps_attribute_vec(
 {
     let s = store_in(words);
     let label = LabelIndex(label);
-    let tables = Tables {
+    let tables = Tables::new(
         reference_count,
         location,
         index_starts,
         index_ends,
-        label_tables: LabelTables {
-            labels,
-            label_attributes,
-            label_count,
-            label_starts,
-            label_ends,
-            attributes,
-            attribute_count,
-            attribute_starts,
-            attribute_ends,
-        },
-    };
+        labels,
+        label_attributes,
+        label_count,
+        label_starts,
+        label_ends,
+        attributes,
+        attribute_count,
+        attribute_starts,
+        attribute_ends,
+    );
     let answer = store_readings::attribute_vec(
         s,
         store,

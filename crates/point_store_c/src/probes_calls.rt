@@ -14,7 +14,6 @@ ghost use Rattle.point_store_c.specs.ProbesRecords.{probes_in};
 use crate::answers::{added_out, done_number};
 use crate::opening::shape_in;
 use crate::probes_record::{PROBES_WORDS, probes_in, probes_out, probes_write};
-use labels::LabelTables;
 use probes_check::eight_probes;
 use probes_definitions::Probes;
 use store_check::bounds_hold;
@@ -205,23 +204,21 @@ pub extern "C" fn ps_probes_tallies(
     ensures { written result out.new ≡ exported_output (tallies_spec (point_probes (probes_in words.now) (held store.now last_known_shingle.now reference_count.now location.now index_starts.now index_ends.now labels.now label_attributes.now label_count.now label_starts.now label_ends.now attributes.now attribute_count.now attribute_starts.now attribute_ends.now)) out.old) }
 {
     let p = probes_in(words);
-    let tables = Tables {
+    let tables = Tables::new(
         reference_count,
         location,
         index_starts,
         index_ends,
-        label_tables: LabelTables {
-            labels,
-            label_attributes,
-            label_count,
-            label_starts,
-            label_ends,
-            attributes,
-            attribute_count,
-            attribute_starts,
-            attribute_ends,
-        },
-    };
+        labels,
+        label_attributes,
+        label_count,
+        label_starts,
+        label_ends,
+        attributes,
+        attribute_count,
+        attribute_starts,
+        attribute_ends,
+    );
     let answer = probes_check::tallies(
         p,
         store,

@@ -13,7 +13,6 @@ ghost use Rattle.point_store_c.specs.Records.{store_in};
 
 use crate::answers::{done_number, equality_out};
 use crate::record::store_in;
-use labels::LabelTables;
 use store_definitions::{Item, Tables};
 use terms::PointIndex;
 
@@ -44,23 +43,21 @@ pub extern "C" fn ps_is_equal(
 {
     let s = store_in(words);
     let index = PointIndex(index);
-    let tables = Tables {
+    let tables = Tables::new(
         reference_count,
         location,
         index_starts,
         index_ends,
-        label_tables: LabelTables {
-            labels,
-            label_attributes,
-            label_count,
-            label_starts,
-            label_ends,
-            attributes,
-            attribute_count,
-            attribute_starts,
-            attribute_ends,
-        },
-    };
+        labels,
+        label_attributes,
+        label_count,
+        label_starts,
+        label_ends,
+        attributes,
+        attribute_count,
+        attribute_starts,
+        attribute_ends,
+    );
     let answer = store_readings::is_equal(
         s,
         store,
@@ -97,23 +94,21 @@ pub extern "C" fn ps_point_sum(
     ensures { written result out.new ≡ exported_output (point_sum_spec add_scaled (float_of plus_zero) (point_store (store_in words.now) (held store.now last_known_shingle.now reference_count.now location.now index_starts.now index_ends.now labels.now label_attributes.now label_count.now label_starts.now label_ends.now attributes.now attribute_count.now attribute_starts.now attribute_ends.now)) (weightings_of items.now) out.old) }
 {
     let s = store_in(words);
-    let tables = Tables {
+    let tables = Tables::new(
         reference_count,
         location,
         index_starts,
         index_ends,
-        label_tables: LabelTables {
-            labels,
-            label_attributes,
-            label_count,
-            label_starts,
-            label_ends,
-            attributes,
-            attribute_count,
-            attribute_starts,
-            attribute_ends,
-        },
-    };
+        labels,
+        label_attributes,
+        label_count,
+        label_starts,
+        label_ends,
+        attributes,
+        attribute_count,
+        attribute_starts,
+        attribute_ends,
+    );
     let answer = store_sum_items::point_sum(
         s,
         store,
@@ -149,23 +144,21 @@ pub extern "C" fn ps_shingled_point(
     ensures { written result out.new ≡ exported_output (shingled_point_spec (point_store (store_in words.now) (held store.now last_known_shingle.now reference_count.now location.now index_starts.now index_ends.now labels.now label_attributes.now label_count.now label_starts.now label_ends.now attributes.now attribute_count.now attribute_starts.now attribute_ends.now)) point.now out.old) }
 {
     let s = store_in(words);
-    let tables = Tables {
+    let tables = Tables::new(
         reference_count,
         location,
         index_starts,
         index_ends,
-        label_tables: LabelTables {
-            labels,
-            label_attributes,
-            label_count,
-            label_starts,
-            label_ends,
-            attributes,
-            attribute_count,
-            attribute_starts,
-            attribute_ends,
-        },
-    };
+        labels,
+        label_attributes,
+        label_count,
+        label_starts,
+        label_ends,
+        attributes,
+        attribute_count,
+        attribute_starts,
+        attribute_ends,
+    );
     let answer = store_readings::shingled_point(
         s,
         store,
@@ -202,23 +195,21 @@ pub extern "C" fn ps_missing_indices(
     ensures { written result out.new ≡ exported_output (missing_indices_spec (point_store (store_in words.now) (held store.now last_known_shingle.now reference_count.now location.now index_starts.now index_ends.now labels.now label_attributes.now label_count.now label_starts.now label_ends.now attributes.now attribute_count.now attribute_starts.now attribute_ends.now)) look_ahead values.now out.old) }
 {
     let s = store_in(words);
-    let tables = Tables {
+    let tables = Tables::new(
         reference_count,
         location,
         index_starts,
         index_ends,
-        label_tables: LabelTables {
-            labels,
-            label_attributes,
-            label_count,
-            label_starts,
-            label_ends,
-            attributes,
-            attribute_count,
-            attribute_starts,
-            attribute_ends,
-        },
-    };
+        labels,
+        label_attributes,
+        label_count,
+        label_starts,
+        label_ends,
+        attributes,
+        attribute_count,
+        attribute_starts,
+        attribute_ends,
+    );
     let answer = store_readings::missing_indices(
         s,
         store,
@@ -255,23 +246,21 @@ pub extern "C" fn ps_next_indices(
     ensures { written result out.new ≡ exported_output (next_indices_spec (point_store (store_in words.now) (held store.now last_known_shingle.now reference_count.now location.now index_starts.now index_ends.now labels.now label_attributes.now label_count.now label_starts.now label_ends.now attributes.now attribute_count.now attribute_starts.now attribute_ends.now)) look_ahead out.old) }
 {
     let s = store_in(words);
-    let tables = Tables {
+    let tables = Tables::new(
         reference_count,
         location,
         index_starts,
         index_ends,
-        label_tables: LabelTables {
-            labels,
-            label_attributes,
-            label_count,
-            label_starts,
-            label_ends,
-            attributes,
-            attribute_count,
-            attribute_starts,
-            attribute_ends,
-        },
-    };
+        labels,
+        label_attributes,
+        label_count,
+        label_starts,
+        label_ends,
+        attributes,
+        attribute_count,
+        attribute_starts,
+        attribute_ends,
+    );
     let answer = store_readings::next_indices(
         s,
         store,

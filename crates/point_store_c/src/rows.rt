@@ -10,7 +10,6 @@ ghost use Rattle.point_store_c.specs.Records.{store_in};
 
 use crate::answers::{added_out, done_number};
 use crate::record::{store_in, store_out};
-use labels::LabelTables;
 use store_definitions::Tables;
 use terms::PointIndex;
 
@@ -145,23 +144,21 @@ pub extern "C" fn ps_copy(
 {
     let s = store_in(words);
     let index = PointIndex(index);
-    let tables = Tables {
+    let tables = Tables::new(
         reference_count,
         location,
         index_starts,
         index_ends,
-        label_tables: LabelTables {
-            labels,
-            label_attributes,
-            label_count,
-            label_starts,
-            label_ends,
-            attributes,
-            attribute_count,
-            attribute_starts,
-            attribute_ends,
-        },
-    };
+        labels,
+        label_attributes,
+        label_count,
+        label_starts,
+        label_ends,
+        attributes,
+        attribute_count,
+        attribute_starts,
+        attribute_ends,
+    );
     let answer = store_rows::copy(
         s,
         store,
