@@ -3,7 +3,7 @@ use Prim.Native.Nat.{ℕ, ◌+◌, ◌-◌, ◌≤◌, ◌<◌}
 use native.Mathlib.Nat.{div-le_self}
 use native.Mathlib.Decide.{ℕ_discrete}
 use native.Mathlib.Omega.{arith}
-use mathlib.Core.Bool.{Bool, true, false, cond, not, false≢true}
+use mathlib.Core.Bool.{Bool, true, false, cond}
 use mathlib.Core.List.{List}
 use mathlib.Core.Path.{◌≡◌, refl, sym, ◌∙◌, ap}
 use lib.ListN.{length}
@@ -13,10 +13,10 @@ use Rattle.terms.specs.Below.{positive}
 use Rattle.terms.specs.Refusals.{number}
 use Rattle.terms.specs.declared.Refusal.{Refusal}
 use Rattle.terms.specs.declared.Refusal.TheVariants.{FloatSpaceFull}
-use Rattle.std.specs.Prelude.{Result, Ok, Err, Option, Some}
+use Rattle.std.specs.Prelude.{Result, Ok, Err, Some}
 use Rattle.float_bits.specs.Words.{words_equal}
 use Rattle.interval_store_manager.specs.Answers.{Outcome as ManagerOutcome}
-use Rattle.interval_store_manager.specs.Calls.{Decided, go, refuse, changed as manager_changed}
+use Rattle.interval_store_manager.specs.Calls.{changed as manager_changed}
 use Rattle.placement.specs.declared.Laid.{Laid}
 use Rattle.placement.specs.Growth.{grown, grown_within_lem}
 use Rattle.placement.specs.Laying.{written_count, laid_as, laid_elements, laid_free, place_of}
@@ -25,7 +25,7 @@ use Rattle.placement_rows.specs.Layable.{Layable, overlaps_shared}
 use Rattle.labels.specs.declared.LabelManagers.{LabelManagers}
 use Rattle.labels.specs.Counted.{Counted, counted, free_indices, next_index, live_number}
 use Rattle.labels.specs.CountedLaws.{WellCounted}
-use Rattle.labels.specs.Decisions.{none, code_decided, room_decided}
+use Rattle.labels.specs.Decisions.{none}
 use Rattle.labels.specs.declared.LabelsFree.{LabelsFree}
 use Rattle.labels.specs.Forms.{held}
 use Rattle.labels.specs.Labels.{Labels, LabelTaken, label_taken}
@@ -35,15 +35,13 @@ use Rattle.store_definitions.specs.declared.Store.{Store}
 use Rattle.store_definitions.specs.Memory.{PointStore, point_store}
 use Rattle.store_definitions.specs.Parts.{base_of, extra_of, table_length, Rows, rows_of, with_rows, with_points, with_labels, with_window, point_table, label_half}
 use Rattle.store_definitions.specs.Answers.{kept, refused, waiting, added_means, Outcome, outcome}
-use Rattle.store_definitions.specs.Decisions.{and_then, refuse_if, form_decided}
 use Rattle.store_definitions.specs.Rows.{room_made}
-use Rattle.store_definitions.specs.Adding.{point_length, waits, table_full, entries_filled, AddDecided, keep, wait, refuse_add, then_add, add_decided, window_after, sequenced, row_of, label_given, labelled, table_grown, placed, joins, overflows, laid_rows, laid_how, kept_after, index_given as given_index, free_left, keeps, add_carried_out, add_spec}
+use Rattle.store_definitions.specs.Adding.{point_length, table_full, entries_filled, keep, wait, add_decided, window_after, sequenced, row_of, label_given, labelled, table_grown, placed, joins, overflows, laid_rows, laid_how, kept_after, index_given as given_index, free_left, keeps, add_spec}
 use Rattle.store_definitions.specs.WellFormed.{well_formed}
 use Rattle.store_laws.specs.BoundsLaws.{InBounds, base_some}
 use Rattle.store_laws.specs.Sound.{Sound, sound}
 use Rattle.store_laws.specs.RowsLaws.{RowsOf}
 use Rattle.store_laws.specs.TableLaws.{grown_ready}
-use Rattle.store_laws.specs.DecisionLaws.{allowed}
 use Rattle.store_laws.specs.AddDecisionLaws.{Kept as KeptOn, waits_on, keeps_on}
 use Rattle.store_laws.specs.AddingLaws.{can_grow}
 use Rattle.store_laws.specs.FigureLaws.{free_and_live, grown_figure}
@@ -56,87 +54,46 @@ use Rattle.store_add.specs.Pieces.{with_extent, managers_of, with_managers, wind
 use Rattle.store_add.specs.Requires.{Roomy, Rowed, Labelled, IndexReady}
 use Rattle.store_add.proofs.RoomLaws.{base_most}
 
--- the sequence can be raised
-abbrev pub SequenceOpen : Store → Type 0
-SequenceOpen s = s.next_sequence_index ≡ 4294967295 → ⊥
-
-abbrev accepts : AddDecided → Bool
-accepts keep = true
-accepts wait = true
-accepts (refuse_add n) = false
-
-first_go : (d e : Decided) (a : AddDecided) → accepts (then_add (and_then d e) a) ≡ true → d ≡ go
-first_go go e a h = refl
-first_go (refuse n) e a h = absurd (false≢true h)
-
-last_refused : (f l c : Decided) (a : AddDecided) (b : Bool) → b ≡ true → accepts (then_add (and_then f (and_then l (and_then (refuse_if b 12) c))) a) ≡ true → ⊥
-last_refused go go c a true e h = false≢true h
-last_refused go (refuse n) c a true e h = false≢true h
-last_refused (refuse n) l c a true e h = false≢true h
-last_refused f l c a false e h = false≢true e
-
-formed : (p : PointStore ℕ) → form_decided p ≡ go → well_formed p ≡ true
-unfolding form_decided
-formed p e = allowed (well_formed p) 1 e
-
-pub sequence_most : (p : PointStore ℕ) → well_formed p ≡ true → p.header.next_sequence_index ≤ 4294967295
-sequence_most p e = ?
-
-module _ (p : PointStore ℕ) (point : List ℕ) (code : ℕ) where
+-- of a well-formed store: an add that waits, and one that is kept
+module _ (p : PointStore ℕ) (well : well_formed p ≡ true) (point : List ℕ) (code : ℕ) where
   abbrev s : Store
   s = p.header
 
-  accepted_sound : accepts (add_decided p point code) ≡ true → Sound p
-  unfolding add_decided
-  accepted_sound e = sound p (formed p (first_go (form_decided p) _ _ e))
+  abbrev w : Sound p
+  w = sound p well
 
-  sequence_open : accepts (add_decided p point code) ≡ true → SequenceOpen s
-  unfolding add_decided
-  sequence_open e q =
-      last_refused (form_decided p) (refuse_if (not (eqb (length point) (point_length s))) 3) (code_decided s.store_labels code)
-      (cond (waits s) wait (then_add (and_then (room_decided s.store_labels s.label_manager) (refuse_if (table_full s) 9)) keep))
-      (eqb s.next_sequence_index 4294967295)
-      (eq-eqb s.next_sequence_index 4294967295 q)
-      e
+  rowed : length point ≡ point_length s → Rowed s p.memory.last_known_shingle point
+  rowed h = record { bounds = w.bounds; window_lent = w.lent.window_lent; sized = h }
 
-  rowed : Sound p → length point ≡ point_length s → Rowed s p.memory.last_known_shingle point
-  rowed w h = record { bounds = w.bounds; window_lent = w.lent.window_lent; sized = h }
-
-  -- an add that waits
   pub record Waits : Type 0 where
-    pub opened : SequenceOpen s
+    pub unfinished : s.next_sequence_index < 4294967295
     pub row : Rowed s p.memory.last_known_shingle point
 
   pub waits_ready : add_decided p point code ≡ wait → Waits
   waits_ready e =
-      let a : accepts (add_decided p point code) ≡ true = ap accepts e in
-      record { opened = sequence_open a; row = rowed (accepted_sound a) (waits_on p point code e).sized }
+      let a = waits_on p point code e in
+      record { unfinished = omega (arith, a.unfinished, w.sequence_most); row = rowed a.sized }
 
-  -- an add that is kept
   pub record Keeps : Type 0 where
-    pub opened : SequenceOpen s
-    pub sound_store : Sound p
+    pub unfinished : s.next_sequence_index < 4294967295
     pub on : KeptOn p point code
     pub row : Rowed s p.memory.last_known_shingle point
     pub room : Roomy s p.memory.store p.memory.location
 
   pub keeps_ready : add_decided p point code ≡ keep → Keeps
   keeps_ready e =
-      let a : accepts (add_decided p point code) ≡ true = ap accepts e in
-      let w : Sound p = accepted_sound a in
-      let k : KeptOn p point code = keeps_on p point code e in
+      let k = keeps_on p point code e in
       record {
-        opened = sequence_open a;
-        sound_store = w;
+        unfinished = omega (arith, k.accepted.unfinished, w.sequence_most);
         on = k;
-        row = rowed w k.accepted.sized;
+        row = rowed k.accepted.sized;
         room = record { bounds = w.bounds; table_within = w.table_within; rows = w.rows };
       }
 
   pub label_ready : Keeps → (f : Figures) → FiguresOf f p → s.store_labels ≡ true → Labelled s (label_half p) code f.free
   label_ready k f figures on =
       record {
-        well = labels_sound_make s.classes s.capacity (label_half p) (k.sound_store.labels on);
+        well = labels_sound_make s.classes s.capacity (label_half p) (w.labels on);
         coded = k.on.accepted.coded on;
         some = k.on.label_free on;
         figures = figures.labels_free on;

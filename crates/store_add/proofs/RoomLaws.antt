@@ -2,12 +2,11 @@
 use Prim.Native.Nat.{ℕ, ◌+◌, ◌*◌, ◌-◌, ◌/◌, ◌≤◌, ◌<◌}
 use native.Mathlib.Nat.{le_of_eq, le_of_dvd, div-le_self}
 use native.Mathlib.Omega.{arith}
-use mathlib.Core.Bool.{Bool, true, false, cond, not}
+use mathlib.Core.Bool.{Bool, true, false, cond}
 use mathlib.Core.List.{List, ◌++◌}
 use mathlib.Core.Path.{◌≡◌, refl, sym, ◌∙◌, ap, ap₂, subst}
 use lib.ListN.{length, take, drop, replicate, length-replicate, length-append, length-drop}
 use lib.Seq.{take_all, take_at, length-take-le}
-use lib.Dec.{ltb, leb}
 use borrow.Author.Tests.{lt-ltb, le-ltb}
 use Rattle.float_bits.specs.Words.{words_equal}
 use Rattle.placement.specs.Compaction.{Layout}
@@ -26,7 +25,7 @@ use Rattle.store_laws.specs.BoundsLaws.{InBounds, base_divides}
 use Rattle.store_laws.specs.RowsLaws.{RowsOf, compacted_sound, room_sound}
 use Rattle.store_add.specs.Pieces.{rows_at, rows_in, with_extent, joined_if_fits, window_moved, row_from}
 use Rattle.terms.specs.declared.Refusal.TheVariants.{FloatSpaceFull}
-use Rattle.std.specs.Prelude.{Result, Ok, Err}
+use Rattle.std.specs.Prelude.{Ok, Err}
 use Rattle.store_add.specs.Requires.{Roomy, Rowed}
 
 -- entries filled one by one are entries replaced at once

@@ -1,5 +1,5 @@
 // An add that keeps its point, carried out.
-ghost use Rattle.std.specs.Prelude.{◌≡◌};
+ghost use Rattle.std.specs.Prelude.{true, ◌≡◌};
 ghost use Rattle.float_bits.specs.Words.{words_equal};
 ghost use Rattle.placement.specs.Laying.{place_of};
 ghost use Rattle.store_check.specs.Figures.{FiguresOf};
@@ -7,6 +7,7 @@ ghost use Rattle.store_definitions.specs.Adding.{keep, add_decided, keeps};
 ghost use Rattle.store_definitions.specs.Answers.{outcome};
 ghost use Rattle.store_definitions.specs.Lent.{held};
 ghost use Rattle.store_definitions.specs.Memory.{point_store};
+ghost use Rattle.store_definitions.specs.WellFormed.{well_formed};
 ghost use Rattle.store_add.specs.Deciding.{kept_means};
 
 use crate::lay::lay_row;
@@ -48,7 +49,7 @@ pub fn keep(
     label: usize,
     figures: Figures,
 ) -> Result<Kept, Refusal>
-    requires { (add_decided (point_store s.old (held store.old last_known_shingle.old reference_count.old location.old index_starts.old index_ends.old labels.old label_attributes.old label_count.old label_starts.old label_ends.now attributes.old attribute_count.old attribute_starts.old attribute_ends.now)) point.now label ≡ keep) × FiguresOf figures (point_store s.old (held store.old last_known_shingle.old reference_count.old location.old index_starts.old index_ends.old labels.old label_attributes.old label_count.old label_starts.old label_ends.now attributes.old attribute_count.old attribute_starts.old attribute_ends.now)) }
+    requires { (well_formed (point_store s.old (held store.old last_known_shingle.old reference_count.old location.old index_starts.old index_ends.old labels.old label_attributes.old label_count.old label_starts.old label_ends.now attributes.old attribute_count.old attribute_starts.old attribute_ends.now)) ≡ true) × ((add_decided (point_store s.old (held store.old last_known_shingle.old reference_count.old location.old index_starts.old index_ends.old labels.old label_attributes.old label_count.old label_starts.old label_ends.now attributes.old attribute_count.old attribute_starts.old attribute_ends.now)) point.now label ≡ keep) × FiguresOf figures (point_store s.old (held store.old last_known_shingle.old reference_count.old location.old index_starts.old index_ends.old labels.old label_attributes.old label_count.old label_starts.old label_ends.now attributes.old attribute_count.old attribute_starts.old attribute_ends.now))) }
     ensures { outcome (kept_means result) (point_store s.new (held store.new last_known_shingle.new reference_count.new location.new index_starts.new index_ends.new labels.new label_attributes.new label_count.new label_starts.new label_ends.now attributes.new attribute_count.new attribute_starts.new attribute_ends.now)) ≡ keeps words_equal 0 (point_store s.old (held store.old last_known_shingle.old reference_count.old location.old index_starts.old index_ends.old labels.old label_attributes.old label_count.old label_starts.old label_ends.now attributes.old attribute_count.old attribute_starts.old attribute_ends.now)) point.now label }
 {
     let joined = find_room(s, store, location, last_known_shingle, point)?;

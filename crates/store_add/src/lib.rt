@@ -20,7 +20,6 @@ mod take;
 
 use decide::{AddStep, add_decision};
 use keep::keep;
-use labels::LabelTables;
 use lay::shift_window;
 use store_check::{Figures, check};
 use store_definitions::{Kept, Store, Tables};
@@ -53,23 +52,21 @@ pub fn add(
         *s,
         store.len(),
         last_known_shingle.len(),
-        Tables {
+        Tables::new(
             reference_count,
             location,
             index_starts,
             index_ends,
-            label_tables: LabelTables {
-                labels,
-                label_attributes,
-                label_count,
-                label_starts,
-                label_ends,
-                attributes,
-                attribute_count,
-                attribute_starts,
-                attribute_ends,
-            },
-        },
+            labels,
+            label_attributes,
+            label_count,
+            label_starts,
+            label_ends,
+            attributes,
+            attribute_count,
+            attribute_starts,
+            attribute_ends,
+        ),
     )
     .ok_or(Refusal::IllFormed)?;
     add_unchecked(
