@@ -1,5 +1,5 @@
 -- The ways out of the readings.
-use Rattle.std.specs.Prelude.{ℕ, Bool, true, false, ◌≡◌, get_or, Option, Ok, Err, []}
+use Rattle.std.specs.Prelude.{ℕ, Bool, true, false, ◌≡◌, get_or, Option, Some, None, Ok, Err, []}
 use Rattle.std.specs.Option.{ok_or}
 use Rattle.std.proofs.Common.{sym, ◌∙◌}
 use Rattle.terms.specs.declared.Refusal.{Refusal}
@@ -17,7 +17,7 @@ use Rattle.store_definitions.specs.Counting.{count_spec, live_number_spec, free_
 use Rattle.store_laws.specs.IllFormedLaws.{count_ill, live_number_ill, free_start_ill}
 use Rattle.store_check.specs.declared.Figures.{Figures}
 use Rattle.store_check.specs.CheckLaws.{elementless}
-use Rattle.store_check.specs.Checked.{checked, checked_lengths, checked_ok, checked_err}
+use Rattle.store_check.specs.Checked.{checked, checked_lengths, checked_some, checked_none, checked_ok, checked_err}
 use Rattle.store_check.specs.Entries.{counts_live}
 use Rattle.store_check.specs.Figures.{FiguresOf, counts_live_lem}
 use Rattle.store_counts.specs.Tables.{counts_alone}
@@ -45,8 +45,13 @@ module _ {E : Type 0} (p : PointStore E) where
   free_start_well_lem e = rw (well e)
 
 -- after the check
-pub checked_well : {E : Type 0} (p : PointStore E) (answer : Option Figures) (why : Refusal) (figures : Figures) → answer ≡ checked p → ok_or answer why ≡ Ok figures → well_formed p ≡ true
-checked_well p answer why figures a e = (checked_ok p answer why figures a e).0
+pub checked_well : {E R : Type 0} (p : PointStore E) (answer : Option Figures) (why : R) (figures : Figures) → answer ≡ checked p → ok_or answer why ≡ Ok figures → well_formed p ≡ true
+checked_well p None why figures a e = cc
+checked_well p (Some x) why figures a e = (checked_some p x (sym a)).0
+
+pub checked_ill : {E R : Type 0} (p : PointStore E) (answer : Option Figures) (why other : R) → answer ≡ checked p → ok_or answer why ≡ Err other → (well_formed p ≡ false) × (other ≡ why)
+checked_ill p None why other a e = (checked_none p (sym a), cc)
+checked_ill p (Some x) why other a e = cc
 
 -- it sees of the elements how many there are
 module _ {E : Type 0} (s : Store) (m : Memory E) (answer : Option Figures) (a : answer ≡ checked (point_store s (elementless m))) where
