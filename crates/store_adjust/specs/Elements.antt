@@ -86,7 +86,7 @@ module _ {F : Type 0} (s : Store) (m : Memory F) (qs : List Pairing) where
 
 -- so a call on the tables alone, of a store whose elements stay, is the call on the whole
 pub adjust_whole : {F : Type 0} (s t : Store) (m n : Memory F) → n.store ≡ m.store → n.last_known_shingle ≡ m.last_known_shingle → (answer : Answer) (qs : List Pairing) → outcome answer (point_store t (elementless n)) ≡ adjust_spec (point_store s (elementless m)) qs → outcome answer (point_store t n) ≡ adjust_spec (point_store s m) qs
-adjust_whole s t m n rows window answer qs e =
+adjust_whole {F = F} s t m n rows window answer qs e =
     ap₂ (λ (xs ys : List F). outcome answer (refilled xs ys (point_store t (elementless n)))) rows window
     ∙ ap (λ (o : Outcome (Unit {0})). refilled_outcome m.store m.last_known_shingle o) e
     ∙ adjust_same s m qs

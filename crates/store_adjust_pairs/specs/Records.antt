@@ -1,8 +1,8 @@
--- The pairs of an adjust as the caller's structs, and as plain numbers.
+-- The pairs of an adjust as plain numbers.
 use Rattle.std.specs.Prelude.{ℕ, List, [], ◌∷◌}
 use Rattle.store_definitions.specs.declared.Pair.{Pair}
 
--- the same list as plain numbers
+-- four of each pair
 unfoldable pub numbers_of : List Pair → List (List ℕ)
 numbers_of [] = []
 numbers_of (p ∷ ps) =
