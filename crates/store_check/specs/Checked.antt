@@ -1,9 +1,8 @@
 -- What the check answers: what is counted of a store that is well-formed, and of any other nothing.
-use Rattle.std.specs.Prelude.{ℕ, Bool, true, false, cond, length, Option, Some, None, Result, Ok, Err, ◌≡◌}
+use Rattle.std.specs.Prelude.{ℕ, Bool, true, false, cond, length, Option, Some, None, Ok, Err, ◌≡◌}
 use Rattle.std.proofs.Common.{refl, sym, ap, ◌∙◌, subst}
 use Rattle.terms.specs.declared.Refusal.{Refusal}
 use Rattle.std.specs.Option.{ok_or}
-use Rattle.labels.specs.declared.LabelsFree.{LabelsFree}
 use Rattle.label_check.specs.Checked.{free_in}
 use Rattle.store_definitions.specs.declared.Store.{Store}
 use Rattle.store_definitions.specs.declared.tables.Tables.{Tables}
@@ -33,7 +32,7 @@ pub checked_lengths : {E : Type 0} (s : Store) (m : Memory E) → checked (point
 unfolding checked
 checked_lengths s m = ap (λ (b : Bool). cond b (Some (figures_in (point_store s m))) None) (well_formed_lengths s m)
 
-figures_are : {E : Type 0} (p : PointStore E) → FiguresOf (figures_in p) p
+pub figures_are : {E : Type 0} (p : PointStore E) → FiguresOf (figures_in p) p
 figures_are p = record { live_is = refl; labels_free = λ on. rw on (record { labels = refl; slots = refl }) }
 
 found : {E : Type 0} (p : PointStore E) (b : Bool) (f : Figures) → cond b (Some (figures_in p)) None ≡ Some f → (b ≡ true) × FiguresOf f p
@@ -43,6 +42,14 @@ found p false f e = cc
 pub checked_some : {E : Type 0} (p : PointStore E) (f : Figures) → checked p ≡ Some f → (well_formed p ≡ true) × FiguresOf f p
 unfolding checked
 checked_some p f e = found p (well_formed p) f e
+
+pub checked_figures : {E : Type 0} (p : PointStore E) (f : Figures) → checked p ≡ Some f → figures_in p ≡ f
+unfolding checked
+checked_figures p f e = same (well_formed p) e
+  where
+    same : (b : Bool) → cond b (Some (figures_in p)) None ≡ Some f → figures_in p ≡ f
+    same true e = cc
+    same false e = cc
 
 pub checked_none : {E : Type 0} (p : PointStore E) → checked p ≡ None → well_formed p ≡ false
 unfolding checked
