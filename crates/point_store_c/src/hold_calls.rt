@@ -1,41 +1,41 @@
 // A hold's calls. Copy, count and the other readings are the store's, on the store's words of the record.
-ghost use Rattle.std.specs.Prelude.{◌≡◌, ◌≤◌, [], ◌∷◌, length};
+ghost use Rattle.std.specs.Prelude.{ℕ, ◌≡◌, ◌≤◌, [], ◌∷◌, length};
 ghost use Rattle.float_bits.specs.Words.{words_equal};
-ghost use Rattle.store_definitions.specs.Answers.{done_means};
 ghost use Rattle.hold_definitions.specs.Adding.{hold_add_spec};
 ghost use Rattle.hold_definitions.specs.Lent.{hold_held};
-ghost use Rattle.hold_definitions.specs.Memory.{point_hold};
+ghost use Rattle.hold_definitions.specs.Memory.{HoldMemory, point_hold};
+ghost use Rattle.hold_definitions.specs.Opening.{hold_opened};
 ghost use Rattle.hold_definitions.specs.Readings.{held_spec, held_number_spec};
-ghost use Rattle.point_store_c.specs.ExportedStore.{returned, shape_in, read, exported_reading, written, exported_output};
-ghost use Rattle.point_store_c.specs.ExportedHold.{hold_exported, hold_exported_call, hold_opened_words, short_hold, hold_exported_opening};
+ghost use Rattle.point_store_c.specs.ExportedStore.{shape_in, read, exported_reading, written, exported_output};
+ghost use Rattle.point_store_c.specs.ExportedHold.{hold_exported, hold_exported_call, hold_opened_as, short_hold, hold_exported_opening};
 ghost use Rattle.point_store_c.specs.HoldRecords.{hold_in};
+ghost use Rattle.terms.specs.Refusals.{number};
 
 use crate::answers::{added_out, done_number, number_out};
 use crate::hold_record::{HOLD_WORDS, hold_in, hold_out, hold_write};
-use crate::opening::shape_in;
+use crate::opening::{shape_allowed, shape_in};
 use hold_definitions::Hold;
-use store_check::bounds_hold;
 use store_definitions::{Shape, Tables};
 use terms::Refusal;
 
-// The refusal of a record that is too short: the shape is looked at first, then the width.
-fn short_hold(shape: Shape, width: usize) -> u64
-    ensures { result ≡ short_hold shape width }
+// Why a record that is too short is refused: the shape is looked at first, then the width.
+#[tactic(auto, unfolding(crate::specs::ExportedHold::short_hold, hold_definitions::specs::WellFormed::width_allowed))]
+fn short_hold(shape: Shape, width: usize) -> Refusal
+    ensures { number result ≡ short_hold shape width }
 {
-    let within = bounds_hold(shape.dimensions, shape.shingle_size, shape.capacity);
-    if within & ((1 <= shape.initial_capacity) & (shape.initial_capacity <= shape.capacity)) {
-        if (1 <= width) & (width < shape.capacity) {
-            return u64::from(Refusal::IllFormed);
-        }
-        return u64::from(Refusal::HoldWidth);
+    if !shape_allowed(shape) {
+        return Refusal::Shape;
     }
-    u64::from(Refusal::Shape)
+    if (1 <= width) & (width < shape.capacity) {
+        return Refusal::IllFormed;
+    }
+    Refusal::HoldWidth
 }
 
 // A refused opening leaves the record.
 fn opened_hold_out(words: &mut [u64], answer: Result<Hold, Refusal>) -> u64
     requires { 41 ≤ length words.old }
-    ensures { (result ≡ returned (hold_opened_means answer)) × (words.new ≡ hold_opened_words words.old (hold_opened_means answer) (opened_hold answer)) }
+    ensures { (m : HoldMemory ℕ) → hold_exported result words.new [] m ≡ hold_opened_as words.old (hold_opened answer m) }
 {
     match answer {
         Err(why) => u64::from(why),
@@ -88,7 +88,7 @@ pub extern "C" fn ps_hold_open(
         store_labels,
     );
     if words.len() < HOLD_WORDS {
-        return short_hold(shape, width);
+        return u64::from(short_hold(shape, width));
     }
     let result = hold_opening::open_hold(
         shape,

@@ -2,7 +2,8 @@
 ghost use Rattle.std.specs.Prelude.{◌≡◌, ◌≤◌, [], length};
 ghost use Rattle.store_definitions.specs.Answers.{opened_means};
 ghost use Rattle.store_definitions.specs.Lent.{held};
-ghost use Rattle.store_definitions.specs.Opening.{opened_store};
+ghost use Rattle.store_definitions.specs.Opening.{opened_store, shape_allowed};
+ghost use Rattle.terms.specs.Refusals.{number};
 ghost use Rattle.point_store_c.specs.ExportedStore.{returned, opened_words, exported, shape_in, short_record, exported_opening};
 
 use crate::record::{RECORD_WORDS, record_write};
@@ -44,15 +45,24 @@ pub fn shape_in(
     }
 }
 
-// The refusal of a record that is too short: the shape is looked at first.
-fn short_record(shape: Shape) -> u64
-    ensures { result ≡ short_record shape }
+// Whether the shape is within the bounds.
+#[tactic(auto, unfolding(store_definitions::specs::Bounds::start_allowed))]
+pub fn shape_allowed(shape: Shape) -> bool
+    ensures { result ≡ shape_allowed shape }
 {
     let within = bounds_hold(shape.dimensions, shape.shingle_size, shape.capacity);
-    if within & ((1 <= shape.initial_capacity) & (shape.initial_capacity <= shape.capacity)) {
-        return u64::from(Refusal::IllFormed);
+    within & ((1 <= shape.initial_capacity) & (shape.initial_capacity <= shape.capacity))
+}
+
+// Why a record that is too short is refused: the shape is looked at first.
+#[tactic(auto, unfolding(crate::specs::ExportedStore::short_record))]
+fn short_record(shape: Shape) -> Refusal
+    ensures { number result ≡ short_record shape }
+{
+    if shape_allowed(shape) {
+        return Refusal::IllFormed;
     }
-    u64::from(Refusal::Shape)
+    Refusal::Shape
 }
 
 // A refused opening leaves the record.
@@ -108,7 +118,7 @@ pub extern "C" fn ps_open(
         store_labels,
     );
     if words.len() < RECORD_WORDS {
-        return short_record(shape);
+        return u64::from(short_record(shape));
     }
     let result = store_rows::open(
         shape,

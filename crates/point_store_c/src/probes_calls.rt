@@ -1,47 +1,48 @@
 // The calls of the product for the eight-probe block. Copy, count and the other readings are the store's, on the first fifteen words
 // of the record.
-ghost use Rattle.std.specs.Prelude.{◌≡◌, ◌≤◌, [], ◌∷◌, length};
+ghost use Rattle.std.specs.Prelude.{ℕ, ◌≡◌, ◌≤◌, [], ◌∷◌, length};
 ghost use Rattle.float_bits.specs.Words.{words_equal};
-ghost use Rattle.store_definitions.specs.Answers.{done_means};
 ghost use Rattle.store_definitions.specs.Lent.{held};
 ghost use Rattle.probes_definitions.specs.Memory.{point_probes};
+ghost use Rattle.probes_definitions.specs.Opening.{probes_opened};
+ghost use Rattle.store_definitions.specs.Memory.{Memory};
 ghost use Rattle.probes_definitions.specs.Setting.{set_kinds_spec};
 ghost use Rattle.probes_definitions.specs.Tallies.{tallies_spec};
-ghost use Rattle.point_store_c.specs.ExportedStore.{returned, exported, shape_in, written, exported_output};
-ghost use Rattle.point_store_c.specs.ExportedProbes.{probes_exported_call, probes_opened_words, short_probes, probes_exported_opening};
+ghost use Rattle.point_store_c.specs.ExportedStore.{exported, shape_in, written, exported_output};
+ghost use Rattle.point_store_c.specs.ExportedProbes.{probes_exported_call, probes_opened_as, short_probes, probes_exported_opening};
 ghost use Rattle.point_store_c.specs.ProbesRecords.{probes_in};
+ghost use Rattle.terms.specs.Refusals.{number};
 
 use crate::answers::{added_out, done_number};
-use crate::opening::shape_in;
+use crate::opening::{shape_allowed, shape_in};
 use crate::probes_record::{PROBES_WORDS, probes_in, probes_out, probes_write};
 use probes_check::eight_probes;
 use probes_definitions::Probes;
-use store_check::bounds_hold;
 use store_definitions::{Shape, Tables};
 use terms::Refusal;
 
-// The refusal of a record that is too short: the shape is looked at first.
-fn short_probes(shape: Shape) -> u64
-    ensures { result ≡ short_probes shape }
+// Why a record that is too short is refused: the shape is looked at first.
+#[tactic(auto, unfolding(crate::specs::ExportedProbes::short_probes))]
+fn short_probes(shape: Shape) -> Refusal
+    ensures { number result ≡ short_probes shape }
 {
-    let within = bounds_hold(shape.dimensions, shape.shingle_size, shape.capacity);
-    if within & ((1 <= shape.initial_capacity) & (shape.initial_capacity <= shape.capacity)) {
-        if eight_probes(
-            shape.dimensions,
-            shape.shingle_size,
-            shape.internal_shingling,
-        ) {
-            return u64::from(Refusal::IllFormed);
-        }
-        return u64::from(Refusal::Shape);
+    if !shape_allowed(shape) {
+        return Refusal::Shape;
     }
-    u64::from(Refusal::Shape)
+    if eight_probes(
+        shape.dimensions,
+        shape.shingle_size,
+        shape.internal_shingling,
+    ) {
+        return Refusal::IllFormed;
+    }
+    Refusal::Shape
 }
 
 // A refused opening leaves the record.
 fn opened_probes_out(words: &mut [u64], answer: Result<Probes, Refusal>) -> u64
     requires { 47 ≤ length words.old }
-    ensures { (result ≡ returned (probes_opened_means answer)) × (words.new ≡ probes_opened_words words.old (probes_opened_means answer) (opened_probes answer)) }
+    ensures { (m : Memory ℕ) → exported result words.new [] m ≡ probes_opened_as words.old (probes_opened answer m) }
 {
     match answer {
         Err(why) => u64::from(why),
@@ -91,7 +92,7 @@ pub extern "C" fn ps_probes_open(
         store_labels,
     );
     if words.len() < PROBES_WORDS {
-        return short_probes(shape);
+        return u64::from(short_probes(shape));
     }
     let result = probes_opening::open_probes(
         shape,
