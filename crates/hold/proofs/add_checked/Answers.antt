@@ -1,5 +1,5 @@
 -- The store's add, and then the list.
-use Rattle.std.proofs.Common.{rules, sym, ap, ◌∙◌}
+use Rattle.std.proofs.Common.{rules, ap, ◌∙◌}
 use Rattle.std.specs.Prelude.{Ok}
 use Rattle.float_bits.specs.Words.{words_equal}
 use Rattle.store_definitions.specs.Lent.{held}

@@ -1,5 +1,5 @@
 -- By how many are held.
-use Rattle.std.specs.Prelude.{length, get_or, replicate}
+use Rattle.std.specs.Prelude.{length, get_or}
 use Rattle.store_definitions.specs.Memory.{point_store}
 use Rattle.store_check.specs.Tables.{tables}
 use Rattle.store_counts.specs.Elements.{refilled}
