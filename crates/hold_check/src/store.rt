@@ -3,21 +3,21 @@
 ghost use Rattle.std.specs.Prelude.{◌≡◌, ◌≤◌, true, ◌&&◌, length, is_some, IfSome};
 ghost use Rattle.store_definitions.specs.Memory.{point_store};
 ghost use Rattle.store_definitions.specs.Parts.{table_length};
-ghost use Rattle.store_definitions.specs.WellFormed.{well_formed, places_distinct};
+ghost use Rattle.store_definitions.specs.WellFormed.{places_distinct};
 ghost use Rattle.store_check.specs.Entries.{counts_live, PlacesBelow};
-ghost use Rattle.store_check.specs.Figures.{FiguresOf};
+ghost use Rattle.store_check.specs.Checked.{checked};
 ghost use Rattle.store_check.specs.PointsTest.{points_test, PointsReady};
+ghost use Rattle.hold_check.specs.Checked.{figures_found};
 ghost use Rattle.hold_check.specs.Rising.{single_counts, ListKnown};
-ghost use Rattle.store_check.specs.Tables.{tables};
+ghost use Rattle.store_check.specs.Tables.{tables_lent};
 
 use crate::list::counts_single;
 use crate::rise::live_rise;
 use crate::steady::steady;
-use class_table::table_allowed;
 use label_check::labels_well_formed;
 use labels::{LabelManagers, LabelsFree};
-use store_check::{Figures, Lengths, numbers_well, places_distinct, table_well};
-use store_definitions::Store;
+use store_check::{Figures, lengths_of, places_distinct, record_well, table_well};
+use store_definitions::{Store, Tables};
 
 // What is found of a store that is well-formed: what was counted, and whether the list is known to name each live point once, each with
 // count 1.
@@ -99,89 +99,62 @@ pub fn store_well(
     s: Store,
     floats: usize,
     window: usize,
-    reference_count: &[u16],
-    location: &[u16],
-    index_starts: &[u16],
-    index_ends: &[u16],
-    labels: &[u8],
-    label_attributes: &[u16],
-    label_count: &[u16],
-    label_starts: &[u16],
-    label_ends: &[u16],
-    attributes: &[u8],
-    attribute_count: &[u32],
-    attribute_starts: &[u16],
-    attribute_ends: &[u16],
+    tables: Tables,
     held: usize,
     held_indices: &[u16],
 ) -> Option<StoreListed>
     requires { held ≤ length held_indices.now }
-    ensures { (is_some result ≡ well_formed (point_store s (tables floats window reference_count.now location.now index_starts.now index_ends.now labels.now label_attributes.now label_count.now label_starts.now label_ends.now attributes.now attribute_count.now attribute_starts.now attribute_ends.now))) × IfSome result (λ store. FiguresOf store.figures (point_store s (tables floats window reference_count.now location.now index_starts.now index_ends.now labels.now label_attributes.now label_count.now label_starts.now label_ends.now attributes.now attribute_count.now attribute_starts.now attribute_ends.now)) × ListKnown (table_length s) held store.figures.live reference_count.now held_indices.now store.listed) }
+    ensures { (figures_found result ≡ checked (point_store s (tables_lent floats window tables.entry))) × IfSome result (λ store. ListKnown (table_length s) held store.figures.live tables.entry.reference_count.now held_indices.now store.listed) }
 {
-    let lent = Lengths {
+    let lent = lengths_of(
         floats,
         window,
-        counts: reference_count.len(),
-        places: location.len(),
-        starts: index_starts.len(),
-        ends: index_ends.len(),
-    };
-    let classes = s.classes;
-    let table = table_allowed(classes);
-    let numbers = numbers_well(s, lent);
-    if table & numbers {
-        let points = points_listed(
-            s,
-            reference_count,
-            location,
-            index_starts,
-            index_ends,
-            held,
-            held_indices,
-        )?;
-        // With labels off nothing is handed on: the slices of a call cost more than the call.
-        if !s.store_labels {
-            return Some(StoreListed {
-                figures: Figures {
-                    live: points.live,
-                    free: LabelsFree {
-                        labels: 0,
-                        slots: 0,
-                    },
-                },
-                listed: points.listed,
-            });
-        }
-        let label_manager = s.label_manager;
-        let attribute_manager = s.attribute_manager;
-        let managers = LabelManagers {
-            label_manager,
-            attribute_manager,
-        };
-        let half = labels_well_formed(
-            s.store_labels,
-            &s.classes,
-            s.capacity,
-            managers,
-            labels,
-            label_attributes,
-            label_count,
-            label_starts,
-            label_ends,
-            attributes,
-            attribute_count,
-            attribute_starts,
-            attribute_ends,
-        );
-        if half.ok {
-            return Some(StoreListed {
-                figures: Figures {
-                    live: points.live,
-                    free: half.free,
-                },
-                listed: points.listed,
-            });
-        }
+        tables.reference_count,
+        tables.location,
+        tables.index_starts,
+        tables.index_ends,
+    );
+    if !record_well(s, lent) {
+        return None;
     }
-    None
+    let points = points_listed(
+        s,
+        tables.reference_count,
+        tables.location,
+        tables.index_starts,
+        tables.index_ends,
+        held,
+        held_indices,
+    )?;
+    // With labels off nothing is handed on: the slices of a call cost more than the call.
+    if !s.store_labels {
+        return Some(StoreListed {
+            figures: Figures {
+                live: points.live,
+                free: LabelsFree {
+                    labels: 0,
+                    slots: 0,
+                },
+            },
+            listed: points.listed,
+        });
+    }
+    let managers = LabelManagers {
+        label_manager: s.label_manager,
+        attribute_manager: s.attribute_manager,
+    };
+    let free = labels_well_formed(
+        s.store_labels,
+        &s.classes,
+        s.capacity,
+        managers,
+        tables.label_tables,
+    )?;
+    Some(StoreListed {
+        figures: Figures {
+            live: points.live,
+            free,
+        },
+        listed: points.listed,
+    })
 }

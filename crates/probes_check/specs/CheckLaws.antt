@@ -30,13 +30,13 @@ module _ {E : Type 0} (p : PointProbes E) where
     pub shingle_positive : 0 < p.header.store.shingle_size
     shingle_positive = omega (arith, (sound (store_of p) e).bounds.shingle_least)
 
-    pub ill_shape : eight ≡ false → false ≡ probes_well_formed p
-    unfolding probes_well_formed
-    ill_shape f = rw (e, f)
+  -- the tests of its own
+  abbrev pub own_tests : Bool
+  own_tests = eight && tallies_within p.header.store.next_sequence_index p.header.tallies
 
-    pub by_tallies : eight ≡ true → length p.header.tallies ≡ 8 → tallies_within p.header.store.next_sequence_index p.header.tallies ≡ probes_well_formed p
-    unfolding probes_well_formed
-    by_tallies f g = rw (e, f, eq-eqb (length p.header.tallies) 8 g)
+  pub own_tests_lem : well_formed (store_of p) ≡ true → length p.header.tallies ≡ 8 → own_tests ≡ probes_well_formed p
+  unfolding probes_well_formed
+  own_tests_lem e g = rw (e, eq-eqb (length p.header.tallies) 8 g)
 
   -- ---- the reading
 

@@ -2,7 +2,7 @@
 use Prim.Native.Nat.{ℕ, ◌<◌}
 use Rattle.std.specs.Prelude.{Bool, true, false, cond, List, length, get_or, Option, Some, None, ◌≡◌}
 use Rattle.std.specs.Bool.{then_some}
-use Rattle.std.proofs.Common.{refl, sym, ap, ◌∙◌}
+use Rattle.std.proofs.Common.{sym, ◌∙◌}
 use Rattle.std.proofs.lemmas.Option.{cond_some}
 use Rattle.labels.specs.declared.LabelsFree.{LabelsFree}
 use Rattle.labels.specs.Labels.{Labels, labels_well}

@@ -2,4 +2,4 @@ mod BoundsTests
 mod EntryLaws
 mod PlaceLaws
 mod TableLaws
-mod CheckedLaws
+pub mod CheckedLaws
