@@ -2,21 +2,19 @@
 #![tactic(auto)]
 
 ghost use Rattle.std.specs.Prelude.{◌≡◌};
-ghost use Rattle.hold_definitions.specs.Answers.{hold_outcome};
 ghost use Rattle.hold_definitions.specs.Lent.{hold_held};
-ghost use Rattle.hold_definitions.specs.Memory.{point_hold};
-ghost use Rattle.hold_definitions.specs.Opening.{no_hold, hold_open_spec};
+ghost use Rattle.hold_definitions.specs.Opening.{no_hold, hold_opened, hold_open_spec};
 ghost use Rattle.interval_store_manager.specs.Calls.{decision_means};
-ghost use Rattle.store_definitions.specs.Answers.{done_means};
-ghost use Rattle.hold_opening.specs.Openings.{opened_as, shape_asked, width_asked, tables_asked, open_asked};
+ghost use Rattle.hold_opening.specs.Openings.{shape_asked, width_asked, tables_asked, open_asked};
 
-use hold_definitions::{Hold, HoldDoneResult};
+use hold_definitions::Hold;
 use store_check::bounds_hold;
-use store_definitions::{Done, DoneResult, Shape};
+use store_definitions::Shape;
 use store_rows::{no_record, open};
 use terms::{FloatBits, Refusal};
 
 // With labels off the table of label indices is not looked at.
+#[tactic(auto, unfolding(crate::specs::Openings::tables_asked))]
 fn tables_decision(
     capacity: usize,
     store_labels: bool,
@@ -36,6 +34,7 @@ fn tables_decision(
     Ok(())
 }
 
+#[tactic(auto, unfolding(crate::specs::Openings::width_asked, hold_definitions::specs::WellFormed::width_allowed))]
 fn width_decision(width: usize, capacity: usize) -> Result<(), Refusal>
     ensures { decision_means result ≡ width_asked width capacity }
 {
@@ -48,6 +47,7 @@ fn width_decision(width: usize, capacity: usize) -> Result<(), Refusal>
     Ok(())
 }
 
+#[tactic(auto, unfolding(crate::specs::Openings::shape_asked, store_definitions::specs::Bounds::start_allowed))]
 fn shape_decision(shape: Shape) -> Result<(), Refusal>
     ensures { decision_means result ≡ shape_asked shape }
 {
@@ -73,41 +73,14 @@ fn open_decision(shape: Shape, width: usize, indices: usize, labels: usize) -> R
     tables_decision(shape.capacity, shape.store_labels, indices, labels)
 }
 
-// What a refused opening gives in place of a record.
+// The record where an opening was refused: every call refuses it as ill-formed.
 pub fn no_hold() -> Hold
     ensures { result ≡ no_hold }
 {
-    let none = no_record();
     Hold {
-        store: none,
+        store: no_record(),
         width: 0,
         held: 0,
-    }
-}
-
-fn opened_hold(opened: DoneResult, width: usize) -> HoldDoneResult
-    ensures { result ≡ opened_as opened.answer opened.store width }
-{
-    let answer = opened.answer;
-    match answer {
-        Done::Refused(why) => {
-            let none = no_hold();
-            HoldDoneResult {
-                hold: none,
-                answer: Done::Refused(why),
-            }
-        }
-        Done::Done => {
-            let store = opened.store;
-            HoldDoneResult {
-                hold: Hold {
-                    store,
-                    width,
-                    held: 0,
-                },
-                answer: Done::Done,
-            }
-        }
     }
 }
 
@@ -133,39 +106,32 @@ pub fn open_hold(
     held_indices: &[u16],
     held_labels: &[u16],
     class_text: &[u8],
-) -> HoldDoneResult
-    ensures { hold_outcome (done_means result.answer) (point_hold result.hold (hold_held store.new last_known_shingle.new reference_count.new location.new index_starts.new index_ends.new labels.new label_attributes.new label_count.new label_starts.new label_ends.new attributes.new attribute_count.new attribute_starts.new attribute_ends.new held_indices.now held_labels.now)) ≡ hold_open_spec 0 shape width class_text.now (hold_held store.old last_known_shingle.old reference_count.old location.old index_starts.old index_ends.old labels.old label_attributes.old label_count.old label_starts.old label_ends.old attributes.old attribute_count.old attribute_starts.old attribute_ends.old held_indices.now held_labels.now) }
+) -> Result<Hold, Refusal>
+    ensures { hold_opened result (hold_held store.new last_known_shingle.new reference_count.new location.new index_starts.new index_ends.new labels.new label_attributes.new label_count.new label_starts.new label_ends.new attributes.new attribute_count.new attribute_starts.new attribute_ends.new held_indices.now held_labels.now) ≡ hold_open_spec 0 shape width class_text.now (hold_held store.old last_known_shingle.old reference_count.old location.old index_starts.old index_ends.old labels.old label_attributes.old label_count.old label_starts.old label_ends.old attributes.old attribute_count.old attribute_starts.old attribute_ends.old held_indices.now held_labels.now) }
 {
-    let d = open_decision(shape, width, held_indices.len(), held_labels.len());
-    match d {
-        Err(why) => {
-            let none = no_hold();
-            HoldDoneResult {
-                hold: none,
-                answer: Done::Refused(why),
-            }
-        }
-        Ok(()) => {
-            let opened = open(
-                shape,
-                store,
-                last_known_shingle,
-                reference_count,
-                location,
-                index_starts,
-                index_ends,
-                labels,
-                label_attributes,
-                label_count,
-                label_starts,
-                label_ends,
-                attributes,
-                attribute_count,
-                attribute_starts,
-                attribute_ends,
-                class_text,
-            );
-            opened_hold(opened, width)
-        }
-    }
+    open_decision(shape, width, held_indices.len(), held_labels.len())?;
+    let opened = open(
+        shape,
+        store,
+        last_known_shingle,
+        reference_count,
+        location,
+        index_starts,
+        index_ends,
+        labels,
+        label_attributes,
+        label_count,
+        label_starts,
+        label_ends,
+        attributes,
+        attribute_count,
+        attribute_starts,
+        attribute_ends,
+        class_text,
+    )?;
+    Ok(Hold {
+        store: opened,
+        width,
+        held: 0,
+    })
 }

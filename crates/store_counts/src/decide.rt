@@ -16,22 +16,17 @@ const LARGEST_COUNT: usize = 65535;
 pub fn point_count(reference_count: &[u16], index: PointIndex) -> usize
     ensures { result ≡ get_or reference_count.now index.0 0 }
 {
-    let i = index.0;
-    if i < reference_count.len() {
-        return reference_count[i] as usize;
-    }
-    0
+    reference_count.get(index.0).copied().unwrap_or(0) as usize
 }
 
+#[tactic(auto, using(crate::specs::TestLaws::in_use_below, crate::specs::TestLaws::in_use_beyond))]
 pub fn point_in_use(s: Store, reference_count: &[u16], index: PointIndex) -> bool
     ensures { result ≡ live (point_store s (counts_alone reference_count.now [])) index.0 }
 {
-    if index.0 < s.index_manager.capacity {
-        return 0 < point_count(reference_count, index);
-    }
-    false
+    (index.0 < s.index_manager.capacity) && (0 < point_count(reference_count, index))
 }
 
+#[tactic(auto, using(crate::specs::TestLaws::inc_counted, crate::specs::TestLaws::inc_label_refused, crate::specs::TestLaws::inc_dead))]
 pub fn inc_test(
     s: Store,
     reference_count: &[u16],
@@ -41,11 +36,11 @@ pub fn inc_test(
 ) -> Result<(), Refusal>
     ensures { decision_means result ≡ inc_test (point_store s (counts_alone reference_count.now label_count.now)) index.0 label.0 }
 {
-    if point_in_use(s, reference_count, index) {
-        labels::inc_decision(s.store_labels, s.capacity, label_count, label)?;
-        return room_to_count(reference_count, index);
+    if !point_in_use(s, reference_count, index) {
+        return Err(Refusal::PointNotInUse);
     }
-    Err(Refusal::PointNotInUse)
+    labels::inc_decision(s.store_labels, s.capacity, label_count, label)?;
+    room_to_count(reference_count, index)
 }
 
 // Whether a point's count may rise.
@@ -58,6 +53,7 @@ fn room_to_count(reference_count: &[u16], index: PointIndex) -> Result<(), Refus
     Ok(())
 }
 
+#[tactic(auto, using(crate::specs::TestLaws::dec_labelled, crate::specs::TestLaws::dec_dead))]
 pub fn dec_test(
     s: Store,
     reference_count: &[u16],
@@ -67,8 +63,8 @@ pub fn dec_test(
 ) -> Result<(), Refusal>
     ensures { decision_means result ≡ dec_test (point_store s (counts_alone reference_count.now label_count.now)) index.0 label.0 }
 {
-    if point_in_use(s, reference_count, index) {
-        return labels::dec_decision(s.store_labels, s.capacity, label_count, label);
+    if !point_in_use(s, reference_count, index) {
+        return Err(Refusal::PointNotInUse);
     }
-    Err(Refusal::PointNotInUse)
+    labels::dec_decision(s.store_labels, s.capacity, label_count, label)
 }

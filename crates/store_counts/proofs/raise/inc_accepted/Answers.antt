@@ -1,6 +1,6 @@
 -- The point, and with labels on the label.
 use native.Mathlib.Omega.{arith}
-use borrow.Author.Rules.{scaled_Fits}
+use borrow.Author.Rules.{scaled_Fits, rules}
 use Prim.Native.Nat.{◌<◌}
 use lib.ListN.{get_or}
 use mathlib.Core.Path.{sym, ◌∙◌}
@@ -26,7 +26,7 @@ pub overflow_add-reference_count : goal.overflow_add-reference_count
 overflow_add-reference_count c =
     let a = c.args in
     let p = point_store a.s (tables a.floats a.window a.reference_count.now a.location.now a.index_starts.now a.index_ends.now a.labels.now a.label_attributes.now a.label_count.now a.label_starts.now a.label_ends.now a.attributes.now a.attribute_count.now a.attribute_starts.now a.attribute_ends.now) in
-    let h : get_or a.reference_count.now a.index.0 0 < 65536 = omega (arith, c.slice_known-4-1.given a.index.0) in
+    let h : get_or a.reference_count.now a.index.0 0 < 65536 = search rules in
     let k : get_or a.reference_count.now a.index.0 0 < 65535 = inc_room p c.requires.0 a.index.0 a.label.0 c.requires.1 h in
     omega arith
 
