@@ -14,7 +14,7 @@ pub enum Call {
 
 // A number that is no call's.
 #[derive(Clone, Copy)]
-pub struct UnknownCall(pub usize);
+pub struct UnknownCall(usize);
 
 // Every call, at its number's place.
 pub const CALLS: [Call; 7] = [
@@ -46,5 +46,11 @@ impl fmt::Display for Call {
             Call::IsEmpty => "is_empty",
             Call::GetCapacity => "get_capacity",
         })
+    }
+}
+
+impl fmt::Display for UnknownCall {
+    fn fmt<W: fmt::Write>(&self, f: &mut fmt::Formatter<W>) -> fmt::Result {
+        write!(f, "no call has the number {}", self.0)
     }
 }

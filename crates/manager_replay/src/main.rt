@@ -23,9 +23,12 @@ fn replay_line(
 ) -> io::Result<()> {
     let argument = line.argument;
     let recorded = line.seen;
-    let Ok(call) = Call::try_from(line.call) else {
-        tally.count(line.call, false);
-        return println!(rt; "step {step} differs: no call {argument}; recorded: {recorded}");
+    let call = match Call::try_from(line.call) {
+        Ok(call) => call,
+        Err(unknown) => {
+            tally.count(line.call, false);
+            return println!(rt; "step {step} differs: {unknown}");
+        }
     };
     let seen = manager.make(call, argument);
     tally.count(line.call, seen == recorded);

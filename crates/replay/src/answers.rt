@@ -45,10 +45,7 @@ impl Answer {
     }
 
     pub fn given<T: Recorded>(alloc: Global, list: &[T]) -> Result<Self, AllocError> {
-        let mut numbers = Vec::new(alloc);
-        for entry in list {
-            numbers.push(entry.recorded())?;
-        }
+        let numbers = list.iter().map(|entry| entry.recorded()).collect(alloc)?;
         Ok(Answer { value: 0, numbers })
     }
 

@@ -46,16 +46,18 @@ fn replay_line(
     block: &mut Block,
     tally: &mut Tally<16>,
 ) -> io::Result<()> {
-    let number = line.call;
-    let Ok(call) = Call::try_from(number) else {
-        tally.count(number, false);
-        return println!(rt; "step {step} differs: no call {number}");
+    let call = match Call::try_from(line.call) {
+        Ok(call) => call,
+        Err(unknown) => {
+            tally.count(line.call, false);
+            return println!(rt; "step {step} differs: {unknown}");
+        }
     };
     let answer = make(alloc, block, call, line)?;
     let agreed = answer == line.answer
         && block.free_start() == Ok(line.free_start)
         && block.live_number() == Ok(line.live_number);
-    tally.count(number, agreed);
+    tally.count(line.call, agreed);
     if !agreed {
         let value = answer.value;
         let recorded = line.answer.value;

@@ -82,11 +82,10 @@ impl Line {
     }
 
     pub fn words(&self, alloc: Global) -> Result<Vec<FloatBits>, AllocError> {
-        let mut words = Vec::new(alloc);
-        for number in &self.numbers {
-            words.push(u32::try_from(*number).unwrap_or(0))?;
-        }
-        Ok(words)
+        self.numbers
+            .iter()
+            .map(|number| u32::try_from(*number).unwrap_or(0))
+            .collect(alloc)
     }
 
     pub fn pairs(&self, alloc: Global) -> Result<Vec<Pair>, AllocError> {

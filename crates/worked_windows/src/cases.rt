@@ -68,6 +68,7 @@ fn compact(rt: &impl Print, block: &mut Block) -> io::Result<()> {
     println!(rt; "  compact: {answer}; free start {free}")
 }
 
+// Of a refused copy zeros.
 fn copy(rt: &impl Print, block: &Block, index: usize) -> io::Result<()> {
     let mut words = [0; 4];
     let _ = block.copy(PointIndex(index), &mut words);
