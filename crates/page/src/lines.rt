@@ -6,7 +6,6 @@ ghost use Rattle.store_definitions.specs.Answers.{number_means, output};
 ghost use Rattle.page.specs.Page.{page_text, page_written};
 ghost use Rattle.page.specs.Writing.{Readable};
 
-use store_definitions::Number;
 use terms::Refusal;
 
 const COLUMNS: usize = 6;
@@ -44,14 +43,14 @@ pub fn page_unchecked(
     reference_count: &[u16],
     location: &[u16],
     text: &mut [u8],
-) -> Number
+) -> Result<usize, Refusal>
     requires { Readable table_length live reference_count.now location.now }
     ensures { output (number_means result) text.new ≡ page_written table_length reference_count.now location.now text.old }
 {
     let length = live * LINE_BYTES;
     if text.len() < length {
-        return Number::Refused(Refusal::TextLength);
+        return Err(Refusal::TextLength);
     }
     write_lines(table_length, reference_count, location, text);
-    Number::Is(length)
+    Ok(length)
 }
