@@ -3,7 +3,7 @@ ghost use Rattle.std.specs.Prelude.{◌≡◌, [], ◌∷◌};
 ghost use Rattle.store_definitions.specs.Counting.{inc_spec, dec_spec, adjust_spec, count_spec, live_number_spec, free_start_spec};
 ghost use Rattle.store_definitions.specs.Lent.{held};
 ghost use Rattle.store_definitions.specs.Memory.{point_store};
-ghost use Rattle.store_adjust_pairs.specs.Records.{pairings_of};
+ghost use Rattle.store_adjust.specs.Pairs.{pairings_of};
 ghost use Rattle.point_store_c.specs.ExportedStore.{exported, exported_call, read, exported_reading};
 ghost use Rattle.point_store_c.specs.Records.{store_in};
 

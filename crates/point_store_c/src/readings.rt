@@ -7,7 +7,7 @@ ghost use Rattle.store_definitions.specs.Lent.{held};
 ghost use Rattle.store_definitions.specs.Memory.{point_store};
 ghost use Rattle.store_definitions.specs.Preview.{shingled_point_spec};
 ghost use Rattle.store_definitions.specs.Sums.{is_equal_spec, point_sum_spec};
-ghost use Rattle.store_sum_items.specs.Records.{weightings_of};
+ghost use Rattle.row_readings.specs.Items.{weightings_of};
 ghost use Rattle.point_store_c.specs.ExportedStore.{read, exported_reading, written, exported_output};
 ghost use Rattle.point_store_c.specs.Records.{store_in};
 

@@ -7,11 +7,11 @@ unfolding exported_reading
 returns-in-Err c =
     rw (c.in-Err.is, c.from.ensures)
 
-pub returns-in-Waiting : goal.returns-in-Waiting
+pub returns-in-Ok-None : goal.returns-in-Ok-None
 unfolding exported_reading
-returns-in-Waiting c = rw c.in-Waiting.is
+returns-in-Ok-None c = rw c.in-Ok-None.is
 
-pub returns-in-Kept : goal.returns-in-Kept
+pub returns-in-Ok-Some : goal.returns-in-Ok-Some
 unfolding exported_reading
-returns-in-Kept c =
-    rw (c.in-Kept.is, c.laid_out.ensures.0, c.laid_out.ensures.1)
+returns-in-Ok-Some c =
+    rw (c.in-Ok-Some.is, c.laid_out.ensures.0, c.laid_out.ensures.1)

@@ -2,7 +2,7 @@
 use Rattle.std.specs.Prelude.{[], ◌∷◌}
 use Rattle.store_definitions.specs.Answers.{adjusted_means}
 use Rattle.store_definitions.specs.Counting.{adjust_spec}
-use Rattle.store_adjust_pairs.specs.Records.{pairings_of}
+use Rattle.store_adjust.specs.Pairs.{pairings_of}
 use Rattle.point_store_c.proofs.ExportedStoreLaws.{memory, call_exported}
 use Rattle.point_store_c.proofs.counts.ps_adjust.Goals as goal
 

@@ -17,7 +17,7 @@ pub returns : goal.returns
 returns c =
     let a = c.args in
     let h = c.shape_in-shape in
-    let g = c.open-answer in
+    let g = c.open-result in
     let o = c.opened_out in
     open_long a.words.now h.result (shape_in a.dimensions a.shingle_size a.capacity a.initial_capacity a.internal_shingling a.internal_rotation a.store_labels) h.ensures a.class_text.now
     (memory a.store.now a.last_known_shingle.now a.reference_count.now a.location.now a.index_starts.now a.index_ends.now a.labels.now a.label_attributes.now a.label_count.now a.label_starts.now a.label_ends.now a.attributes.now a.attribute_count.now a.attribute_starts.now a.attribute_ends.now) (opened_means g.result) (opened_store g.result)
