@@ -5,12 +5,11 @@ ghost use Rattle.std.specs.Prelude.{◌≡◌};
 ghost use Rattle.hold_definitions.specs.Lent.{hold_held};
 ghost use Rattle.hold_definitions.specs.Opening.{no_hold, hold_opened, hold_open_spec};
 ghost use Rattle.interval_store_manager.specs.Calls.{decision_means};
-ghost use Rattle.hold_opening.specs.Openings.{shape_asked, width_asked, tables_asked, open_asked};
+ghost use Rattle.hold_opening.specs.Openings.{width_asked, tables_asked, open_asked};
 
 use hold_definitions::Hold;
-use store_check::bounds_hold;
 use store_definitions::Shape;
-use store_rows::{no_record, open};
+use store_rows::{no_record, open, shape_allowed};
 use terms::{FloatBits, Refusal};
 
 // With labels off the table of label indices is not looked at.
@@ -47,28 +46,14 @@ fn width_decision(width: usize, capacity: usize) -> Result<(), Refusal>
     Ok(())
 }
 
-#[tactic(auto, unfolding(crate::specs::Openings::shape_asked, store_definitions::specs::Bounds::start_allowed))]
-fn shape_decision(shape: Shape) -> Result<(), Refusal>
-    ensures { decision_means result ≡ shape_asked shape }
-{
-    if bounds_hold(shape.dimensions, shape.shingle_size, shape.capacity) {
-        if shape.initial_capacity < 1 {
-            return Err(Refusal::Shape);
-        }
-        if shape.capacity < shape.initial_capacity {
-            return Err(Refusal::Shape);
-        }
-        return Ok(());
-    }
-    Err(Refusal::Shape)
-}
-
 // The shape, then the width, then the two tables; the rest of the memory is the store's.
-#[tactic(auto, unfolding(crate::specs::Openings::open_asked))]
+#[tactic(auto, unfolding(crate::specs::Openings::open_asked, crate::specs::Openings::shape_asked))]
 fn open_decision(shape: Shape, width: usize, indices: usize, labels: usize) -> Result<(), Refusal>
     ensures { decision_means result ≡ open_asked shape width indices labels }
 {
-    shape_decision(shape)?;
+    if !shape_allowed(shape) {
+        return Err(Refusal::Shape);
+    }
     width_decision(width, shape.capacity)?;
     tables_decision(shape.capacity, shape.store_labels, indices, labels)
 }

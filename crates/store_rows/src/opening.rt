@@ -6,7 +6,7 @@ ghost use Rattle.store_definitions.specs.Answers.{opened_means, outcome};
 ghost use Rattle.store_definitions.specs.Bounds.{bounds_hold, lent_enough};
 ghost use Rattle.store_definitions.specs.Lent.{held, lent};
 ghost use Rattle.store_definitions.specs.Memory.{point_store};
-ghost use Rattle.store_definitions.specs.Opening.{fresh_with, no_record, open_judged, open_spec, opened_store};
+ghost use Rattle.store_definitions.specs.Opening.{fresh_with, no_record, open_judged, open_spec, opened_store, shape_allowed};
 ghost use Rattle.store_rows.specs.Openings.{label_managers, labels_lent_if};
 
 use crate::clearing::{open_labels, open_points};
@@ -16,6 +16,17 @@ use labels::LabelTables;
 use store_check::bounds_hold;
 use store_definitions::{Shape, Store, Tables};
 use terms::{FloatBits, Refusal};
+
+// The shape within the bounds.
+#[tactic(auto, unfolding(store_definitions::specs::Bounds::start_allowed))]
+pub fn shape_allowed(shape: Shape) -> bool
+    ensures { result ≡ shape_allowed shape }
+{
+    if bounds_hold(shape.dimensions, shape.shingle_size, shape.capacity) {
+        return (1 <= shape.initial_capacity) & (shape.initial_capacity <= shape.capacity);
+    }
+    false
+}
 
 // With labels off none is asked for.
 #[tactic(auto, unfolding(crate::specs::Openings::labels_lent_if))]
@@ -57,7 +68,6 @@ fn enough_lent(
 }
 
 // Whatever the text holds: that it holds no table is the last refusal.
-#[tactic(auto, using(crate::specs::Openings::shape_refused))]
 fn opening_decision(
     shape: Shape,
     store: &[FloatBits],
@@ -66,13 +76,7 @@ fn opening_decision(
 ) -> Result<(), Refusal>
     ensures { decision_means result ≡ open_judged shape true (lent store.now last_known_shingle.now tables.entry) }
 {
-    if !bounds_hold(shape.dimensions, shape.shingle_size, shape.capacity) {
-        return Err(Refusal::Shape);
-    }
-    if shape.initial_capacity < 1 {
-        return Err(Refusal::Shape);
-    }
-    if shape.capacity < shape.initial_capacity {
+    if !shape_allowed(shape) {
         return Err(Refusal::Shape);
     }
     if !enough_lent(shape, store, last_known_shingle, tables) {
