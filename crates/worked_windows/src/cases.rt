@@ -2,9 +2,9 @@
 use crate::print::{Answer, Asked, Row, added, done};
 use block::Block;
 use class_table::reason_classes_text;
-use std::io;
+use std::{fmt, io};
 use store_definitions::Shape;
-use terms::{LabelIndex, NONE, PointIndex, Refusal};
+use terms::{FloatBits, LabelIndex, NONE, PointIndex, Refusal};
 
 const UNLABELLED: LabelIndex = LabelIndex(NONE);
 
@@ -48,12 +48,23 @@ pub fn opened(
     )
 }
 
-// An add of a row, or with internal shingling of the values that follow; the line ends with the free start after it.
+// An add under a name of the point, and the free start after it.
+pub fn add_said(
+    rt: &impl Print,
+    block: &mut Block,
+    said: &impl fmt::Display,
+    point: &[FloatBits],
+    code: usize,
+) -> io::Result<()> {
+    let answer = added(block.add(point, code));
+    let free = block.store.start_free_region;
+    println!(rt; "  add {said}: {answer}; free start {free}")
+}
+
+// An add of a row, or with internal shingling of the values that follow.
 pub fn add<const N: usize>(rt: &impl Print, block: &mut Block, point: [f32; N]) -> io::Result<()> {
     let row = Row::of(point);
-    let answer = added(block.add(&row.0, 0));
-    let free = block.store.start_free_region;
-    println!(rt; "  add {row}: {answer}; free start {free}")
+    add_said(rt, block, &row, &row.0, 0)
 }
 
 fn dec(rt: &impl Print, block: &mut Block, index: usize) -> io::Result<()> {

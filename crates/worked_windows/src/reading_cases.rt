@@ -1,9 +1,9 @@
 // The other readings, of small stores: what is compared and added up of rows, and what is read of labels.
-use crate::cases::{add, new_store, new_store_with, opened, opening, three_adds};
-use crate::print::{Answer, Row, added, done};
+use crate::cases::{add, add_said, new_store, new_store_with, opened, opening, three_adds};
+use crate::print::{Answer, Row, done};
 use block::Block;
 use float_bits::word_of_float;
-use std::io;
+use std::{fmt, io};
 use store_definitions::{Item, Shape};
 use terms::{FloatBits, LabelIndex, PointIndex};
 
@@ -14,27 +14,21 @@ const NAN: FloatBits = 0x7fc0_0000;
 
 const OTHER_NAN: FloatBits = 0x7fc0_0001;
 
-// A comparison with a row under its name, since of its words a float does not say all.
-fn compare(
+// A comparison with a row under its name.
+fn compare_said(
     rt: &impl Print,
     block: &Block,
     index: usize,
-    said: &str,
+    said: &impl fmt::Display,
     row: &[FloatBits],
 ) -> io::Result<()> {
     let answer = Answer(block.is_equal(PointIndex(index), row));
     println!(rt; "  is_equal {index}, {said}: {answer}")
 }
 
-fn compare_floats(
-    rt: &impl Print,
-    block: &Block,
-    index: usize,
-    floats: [f32; 4],
-) -> io::Result<()> {
+fn compare(rt: &impl Print, block: &Block, index: usize, floats: [f32; 4]) -> io::Result<()> {
     let row = Row::of(floats);
-    let answer = Answer(block.is_equal(PointIndex(index), &row.0));
-    println!(rt; "  is_equal {index}, {row}: {answer}")
+    compare_said(rt, block, index, &row, &row.0)
 }
 
 // The sum of two rows, each an index with a weight; 7 stands where nothing was written.
@@ -57,26 +51,14 @@ pub fn rows_read(rt: &impl Print) -> io::Result<()> {
     println!(rt; "is_equal and point_sum, rotating")?;
     let mut block = opened(rt, true, true, 10, 5)?;
     three_adds(rt, &mut block)?;
-    compare_floats(rt, &block, 1, [5.0, 6.0, 3.0, 4.0])?;
-    compare_floats(rt, &block, 1, [3.0, 4.0, 5.0, 6.0])?;
-    compare_floats(rt, &block, 2, [5.0, 6.0, 3.0, 4.0])?;
+    compare(rt, &block, 1, [5.0, 6.0, 3.0, 4.0])?;
+    compare(rt, &block, 1, [3.0, 4.0, 5.0, 6.0])?;
+    compare(rt, &block, 2, [5.0, 6.0, 3.0, 4.0])?;
     sum(rt, &block, [(0, 1), (1, 1)])?;
     sum(rt, &block, [(0, 3), (1, 0)])?;
     sum(rt, &block, [(0, 16777216), (1, 16777217)])?;
     sum(rt, &block, [(0, 16777217), (2, 1)])?;
     sum(rt, &block, [(2, 16777217), (0, 1)])
-}
-
-// An add of two words under their name, in a store of dimensions 2 a whole row.
-fn add_words(
-    rt: &impl Print,
-    block: &mut Block,
-    said: &str,
-    point: [FloatBits; 2],
-) -> io::Result<()> {
-    let answer = added(block.add(&point, 0));
-    let free = block.store.start_free_region;
-    println!(rt; "  add {said}: {answer}; free start {free}")
 }
 
 // Equality is that of the 32 bits: −0.0 is not 0.0, and a NaN equals a NaN of the same bits.
@@ -91,24 +73,24 @@ pub fn zeros_and_nans(rt: &impl Print) -> io::Result<()> {
         word_of_float(2.0),
         word_of_float(3.0),
     ];
-    compare(rt, &block, 0, "-0 1 2 3", &zero)?;
-    add_words(rt, &mut block, "NaN 5", [NAN, word_of_float(5.0)])?;
+    compare_said(rt, &block, 0, &"-0 1 2 3", &zero)?;
+    add_said(rt, &mut block, &"NaN 5", &[NAN, word_of_float(5.0)], 0)?;
     let nan = [
         word_of_float(2.0),
         word_of_float(3.0),
         NAN,
         word_of_float(5.0),
     ];
-    compare(rt, &block, 1, "2 3 NaN 5", &nan)?;
+    compare_said(rt, &block, 1, &"2 3 NaN 5", &nan)?;
     let other = [
         word_of_float(2.0),
         word_of_float(3.0),
         OTHER_NAN,
         word_of_float(5.0),
     ];
-    compare(rt, &block, 1, "2 3 NaN of other bits 5", &other)?;
-    compare(rt, &block, 1, "three floats", &nan[..3])?;
-    compare(rt, &block, 2, "three floats", &nan[..3])
+    compare_said(rt, &block, 1, &"2 3 NaN of other bits 5", &other)?;
+    compare_said(rt, &block, 1, &"three floats", &nan[..3])?;
+    compare_said(rt, &block, 2, &"three floats", &nan[..3])
 }
 
 // The second row is laid whole for its zero's sign alone; the third joins over a NaN, which the fourth's is not.
@@ -126,26 +108,33 @@ pub fn joined_by_bits(rt: &impl Print) -> io::Result<()> {
             store_labels: false,
         },
     )?;
-    add_words(
+    add_said(
         rt,
         &mut block,
-        "1 0",
-        [word_of_float(1.0), word_of_float(0.0)],
+        &"1 0",
+        &[word_of_float(1.0), word_of_float(0.0)],
+        0,
     )?;
-    add_words(rt, &mut block, "-0 NaN", [MINUS_ZERO, NAN])?;
-    add_words(rt, &mut block, "NaN NaN", [NAN, NAN])?;
-    add_words(
+    add_said(rt, &mut block, &"-0 NaN", &[MINUS_ZERO, NAN], 0)?;
+    add_said(rt, &mut block, &"NaN NaN", &[NAN, NAN], 0)?;
+    add_said(
         rt,
         &mut block,
-        "NaN of other bits 2",
-        [OTHER_NAN, word_of_float(2.0)],
+        &"NaN of other bits 2",
+        &[OTHER_NAN, word_of_float(2.0)],
+        0,
     )
 }
 
 fn add_with_code(rt: &impl Print, block: &mut Block, code: usize) -> io::Result<()> {
-    let answer = added(block.add(&[word_of_float(1.0), word_of_float(2.0)], code));
-    let free = block.store.start_free_region;
-    println!(rt; "  add 1 2 with code {code}: {answer}; free start {free}")
+    let row = Row::of([1.0, 2.0]);
+    add_said(
+        rt,
+        block,
+        &format_args!("{row} with code {code}"),
+        &row.0,
+        code,
+    )
 }
 
 const THREE_LABELLED: Shape = Shape {
