@@ -8,6 +8,7 @@ use placement::Laid;
 use store_definitions::{AdjustRefusal, Kept};
 use terms::Refusal;
 
+#[tactic(auto, unfolding(crate::specs::ExportedStore::exported_reading))]
 pub fn done_number(answer: Result<(), Refusal>) -> u64
     ensures { read result [] ≡ exported_reading [] (done_means answer) }
 {
@@ -17,6 +18,7 @@ pub fn done_number(answer: Result<(), Refusal>) -> u64
     }
 }
 
+#[tactic(auto, unfolding(crate::specs::ExportedStore::exported_reading))]
 pub fn number_out(answer: Result<usize, Refusal>, number: &mut u64) -> u64
     ensures { read result (number.new ∷ []) ≡ exported_reading (number.old ∷ []) (number_means answer) }
 {
@@ -29,6 +31,7 @@ pub fn number_out(answer: Result<usize, Refusal>, number: &mut u64) -> u64
     }
 }
 
+#[tactic(auto, unfolding(crate::specs::ExportedStore::exported_reading))]
 pub fn equality_out(answer: Result<bool, Refusal>, equal: &mut u64) -> u64
     ensures { read result (equal.new ∷ []) ≡ exported_reading (equal.old ∷ []) (equality_means answer) }
 {
@@ -41,6 +44,7 @@ pub fn equality_out(answer: Result<bool, Refusal>, equal: &mut u64) -> u64
     }
 }
 
+#[tactic(auto, unfolding(crate::specs::ExportedStore::exported_reading))]
 pub fn adjusted_out(answer: Result<(), AdjustRefusal>, pairs_before: &mut u64) -> u64
     ensures { read result (pairs_before.new ∷ []) ≡ exported_reading (pairs_before.old ∷ []) (adjusted_means answer) }
 {
@@ -69,6 +73,7 @@ fn laid_out(laid: Laid, joined: &mut u64, place: &mut u64)
     }
 }
 
+#[tactic(auto, unfolding(crate::specs::ExportedStore::exported_reading))]
 pub fn added_out(
     answer: Result<Option<Kept>, Refusal>,
     kept: &mut u64,
