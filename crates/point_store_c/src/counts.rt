@@ -199,13 +199,7 @@ pub extern "C" fn ps_count(
         attribute_starts,
         attribute_ends,
     );
-    let answer = store_counts::count(
-        s,
-        store,
-        last_known_shingle,
-        tables,
-        index,
-    );
+    let answer = store_counts::count(s, store, last_known_shingle, tables, index);
     number_out(answer, count)
 }
 
@@ -247,12 +241,7 @@ pub extern "C" fn ps_live_number(
         attribute_starts,
         attribute_ends,
     );
-    let answer = store_counts::live_number(
-        s,
-        store,
-        last_known_shingle,
-        tables,
-    );
+    let answer = store_counts::live_number(s, store, last_known_shingle, tables);
     number_out(answer, number)
 }
 
@@ -294,11 +283,6 @@ pub extern "C" fn ps_free_start(
         attribute_starts,
         attribute_ends,
     );
-    let answer = store_counts::free_start(
-        s,
-        store,
-        last_known_shingle,
-        tables,
-    );
+    let answer = store_counts::free_start(s, store, last_known_shingle, tables);
     number_out(answer, number)
 }

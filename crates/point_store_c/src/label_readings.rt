@@ -51,13 +51,7 @@ pub extern "C" fn ps_label(
         attribute_starts,
         attribute_ends,
     );
-    let answer = store_readings::label(
-        s,
-        store,
-        last_known_shingle,
-        tables,
-        label,
-    );
+    let answer = store_readings::label(s, store, last_known_shingle, tables, label);
     number_out(answer, code)
 }
 
@@ -101,13 +95,7 @@ pub extern "C" fn ps_attribute(
         attribute_starts,
         attribute_ends,
     );
-    let answer = store_readings::attribute(
-        s,
-        store,
-        last_known_shingle,
-        tables,
-        label,
-    );
+    let answer = store_readings::attribute(s, store, last_known_shingle, tables, label);
     number_out(answer, class)
 }
 
@@ -151,13 +139,6 @@ pub extern "C" fn ps_attribute_vec(
         attribute_starts,
         attribute_ends,
     );
-    let answer = store_readings::attribute_vec(
-        s,
-        store,
-        last_known_shingle,
-        tables,
-        label,
-        out,
-    );
+    let answer = store_readings::attribute_vec(s, store, last_known_shingle, tables, label, out);
     done_number(answer)
 }

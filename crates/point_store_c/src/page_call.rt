@@ -49,12 +49,6 @@ pub extern "C" fn ps_page(
         attribute_starts,
         attribute_ends,
     );
-    let answer = page::page(
-        s,
-        store,
-        last_known_shingle,
-        tables,
-        text,
-    );
+    let answer = page::page(s, store, last_known_shingle, tables, text);
     number_out(answer, page_length)
 }

@@ -220,12 +220,6 @@ pub extern "C" fn ps_probes_tallies(
         attribute_starts,
         attribute_ends,
     );
-    let answer = probes_check::tallies(
-        p,
-        store,
-        last_known_shingle,
-        tables,
-        out,
-    );
+    let answer = probes_check::tallies(p, store, last_known_shingle, tables, out);
     done_number(answer)
 }

@@ -58,14 +58,7 @@ pub extern "C" fn ps_is_equal(
         attribute_starts,
         attribute_ends,
     );
-    let answer = store_readings::is_equal(
-        s,
-        store,
-        last_known_shingle,
-        tables,
-        index,
-        point,
-    );
+    let answer = store_readings::is_equal(s, store, last_known_shingle, tables, index, point);
     equality_out(answer, equal)
 }
 
@@ -109,14 +102,7 @@ pub extern "C" fn ps_point_sum(
         attribute_starts,
         attribute_ends,
     );
-    let answer = store_sum_items::point_sum(
-        s,
-        store,
-        last_known_shingle,
-        tables,
-        items,
-        out,
-    );
+    let answer = store_sum_items::point_sum(s, store, last_known_shingle, tables, items, out);
     done_number(answer)
 }
 
@@ -159,14 +145,7 @@ pub extern "C" fn ps_shingled_point(
         attribute_starts,
         attribute_ends,
     );
-    let answer = store_readings::shingled_point(
-        s,
-        store,
-        last_known_shingle,
-        tables,
-        point,
-        out,
-    );
+    let answer = store_readings::shingled_point(s, store, last_known_shingle, tables, point, out);
     done_number(answer)
 }
 

@@ -159,13 +159,6 @@ pub extern "C" fn ps_copy(
         attribute_starts,
         attribute_ends,
     );
-    let answer = store_rows::copy(
-        s,
-        store,
-        last_known_shingle,
-        tables,
-        index,
-        out,
-    );
+    let answer = store_rows::copy(s, store, last_known_shingle, tables, index, out);
     done_number(answer)
 }
