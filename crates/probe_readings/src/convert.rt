@@ -32,19 +32,11 @@ fn word_in(reading: Reading) -> FloatBits
 pub fn kinds_of(set: [Reading; 8]) -> [u8; 8]
     ensures { (result ≡ kinds_of set) × (length set ≡ 8) }
 {
-    let mut kinds = [0u8; 8];
-    for k in 0..8 {
-        kinds[k] = kind_of(set[k]);
-    }
-    kinds
+    set.map(kind_of)
 }
 
 pub fn words_of(set: [Reading; 8]) -> [FloatBits; 8]
     ensures { result ≡ words_of set }
 {
-    let mut words = [0u32; 8];
-    for k in 0..8 {
-        words[k] = word_in(set[k]);
-    }
-    words
+    set.map(word_in)
 }
