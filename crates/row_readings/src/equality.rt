@@ -10,7 +10,7 @@ ghost use Rattle.row_readings.specs.EqualityLaws.{checked_equality};
 use float_bits::rows_equal;
 use placement_rows::Shape;
 use store_counts::point_in_use;
-use store_definitions::{Equality, Store};
+use store_definitions::Store;
 use terms::{FloatBits, PointIndex, Refusal};
 
 // A copy begins with its row's last t words, so the row is compared in two parts, where it stands.
@@ -43,20 +43,18 @@ pub fn is_equal_unchecked(
     location: &[u16],
     index: PointIndex,
     point: &[FloatBits],
-) -> Equality
+) -> Result<bool, Refusal>
     requires { Readable s (length store.now) reference_count.now location.now }
     ensures { equality_means result ≡ checked_equality words_equal s store.now reference_count.now location.now index.0 point.now }
 {
     if !point_in_use(s, reference_count, index) {
-        return Equality::Refused(Refusal::PointNotInUse);
+        return Err(Refusal::PointNotInUse);
     }
     let dimensions = s.dimensions;
     if point.len() != dimensions {
-        return Equality::Refused(Refusal::Length);
+        return Err(Refusal::Length);
     }
-    let at = index.0;
     let shape = Shape::new(dimensions, s.shingle_size, s.internal_rotation);
-    let place = location[at] as usize;
-    let equal = copy_equals(store, point, shape, place);
-    Equality::Is(equal)
+    let place = location[index.0] as usize;
+    Ok(copy_equals(store, point, shape, place))
 }

@@ -5,7 +5,7 @@ ghost use Rattle.store_definitions.specs.IndexLists.{value_limit, values_below, 
 ghost use Rattle.row_readings.specs.Shingled.{Shingled};
 ghost use Rattle.row_readings.specs.IndexReadings.{FirstIndex};
 
-use store_definitions::{Done, Store};
+use store_definitions::Store;
 use terms::Refusal;
 
 const LARGEST_LOOK_AHEAD: usize = 65535;
@@ -75,37 +75,35 @@ pub fn missing_indices_unchecked(
     look_ahead: usize,
     values: &[usize],
     out: &mut [usize],
-) -> Done
+) -> Result<(), Refusal>
     requires { Shingled s }
     ensures { output (done_means result) out.new ≡ indices_written s look_ahead values.now out.old }
 {
     if out.len() != values.len() {
-        return Done::Refused(Refusal::Length);
+        return Err(Refusal::Length);
     }
     if LARGEST_LOOK_AHEAD < look_ahead {
-        return Done::Refused(Refusal::ValueTooLarge);
+        return Err(Refusal::ValueTooLarge);
     }
-    let limit = value_limit(s);
-    if values_below(values, limit) {
-        let first = first_index(s, look_ahead);
-        move_values(first, values, out);
-        return Done::Done;
+    if !values_below(values, value_limit(s)) {
+        return Err(Refusal::ValueTooLarge);
     }
-    Done::Refused(Refusal::ValueTooLarge)
+    move_values(first_index(s, look_ahead), values, out);
+    Ok(())
 }
 
-pub fn next_indices_unchecked(s: Store, look_ahead: usize, out: &mut [usize]) -> Done
+pub fn next_indices_unchecked(s: Store, look_ahead: usize, out: &mut [usize]) -> Result<(), Refusal>
     requires { Shingled s }
     ensures { output (done_means result) out.new ≡ indices_written s look_ahead (next_values s) out.old }
 {
     let base = s.dimensions / s.shingle_size;
     if out.len() != base {
-        return Done::Refused(Refusal::Length);
+        return Err(Refusal::Length);
     }
     if LARGEST_LOOK_AHEAD < look_ahead {
-        return Done::Refused(Refusal::ValueTooLarge);
+        return Err(Refusal::ValueTooLarge);
     }
     let first = first_index(s, look_ahead);
     count_from(first, out);
-    Done::Done
+    Ok(())
 }

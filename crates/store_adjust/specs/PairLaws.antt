@@ -25,7 +25,7 @@ use Rattle.store_laws.specs.Cases.{by_cases}
 use Rattle.store_laws.specs.CountingLaws.{inc_accepted, pair_accepted}
 use Rattle.store_laws.specs.DecisionLaws.{both_go, touch_go, inc_label_go}
 use Rattle.store_counts.specs.Tables.{counts_alone}
-use Rattle.store_adjust.specs.Pairs.{pair_test, pair_spec}
+use Rattle.store_adjust.specs.Pairs.{pair_of, pair_test, pair_spec}
 
 -- a count above 0 that rises leaves the same counts above 0
 still : (xs : List ℕ) (i j : ℕ) → 0 < get_or xs i 0 → ltb 0 (get_or (set xs i (get_or xs i 0 + 1)) j 0) ≡ ltb 0 (get_or xs j 0)
@@ -103,6 +103,14 @@ module _ {E : Type 0} (p : PointStore E) where
         ∙ sym (ap (λ (b : Bool). cond b go (dec_test r q.delete_index q.delete_label)) (ne_eqb q.delete_index none n))
         ∙ parts.1
 
+  -- so both calls may be made
+  module _ (i l j k : ℕ) (f : (well_formed p ≡ true) × (pair_decided p (pair_of i l j k) ≡ go)) where
+    pub pair_inc_ready : (well_formed p ≡ true) × (inc_test p i l ≡ go)
+    pair_inc_ready = (f.0, pair_inc (pair_of i l j k) f.1)
+
+    pub pair_dec_ready : (x : PointStore E) → x ≡ incremented p i l → (j ≡ none → ⊥) → (well_formed x ≡ true) × (dec_test x j k ≡ go)
+    pair_dec_ready x e n = (pair_inc_keeps (pair_of i l j k) f.1 f.0 x e, pair_dec (pair_of i l j k) f.1 n x e)
+
   module _ (q : Pairing) where
     pub pair_alone : q.delete_index ≡ none → (x : PointStore E) → x ≡ incremented p q.insert_index q.insert_label → x ≡ pair_done p q
     unfolding pair_done
@@ -129,6 +137,9 @@ module _ {E : Type 0} (p : PointStore E) where
 
       pub pair_goes : d ≡ Ok tt → pair_decided p q ≡ go
       pair_goes f = decided go (ap decision_means f)
+
+      pub pair_allowed : well_formed p ≡ true → d ≡ Ok tt → (well_formed p ≡ true) × (pair_decided p q ≡ go)
+      pair_allowed f g = (f, pair_goes g)
 
       pub pair_went : d ≡ Ok tt → (x : PointStore E) → x ≡ pair_done p q → outcome done x ≡ pair_spec p q
       unfolding pair_spec

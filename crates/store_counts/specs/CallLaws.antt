@@ -27,10 +27,10 @@ use Rattle.store_laws.specs.DecisionLaws.{both_go, not_refused, touch_go, inc_la
 use Rattle.store_laws.specs.IllFormedLaws.{inc_ill, dec_ill}
 use Rattle.store_check.specs.declared.Figures.{Figures}
 use Rattle.store_check.specs.CheckLaws.{elementless}
-use Rattle.store_check.specs.Checked.{checked}
+use Rattle.store_check.specs.Checked.{checked, check_failed}
 use Rattle.store_counts.specs.Tables.{counts_alone, emptied}
 use Rattle.store_counts.specs.TestLaws.{inc_test_alone, dec_test_alone}
-use Rattle.store_counts.specs.ReadingLaws.{well, failed}
+use Rattle.store_counts.specs.ReadingLaws.{well}
 
 less : (k : ℕ) → k ≤ 65535 → (k ≡ 65535 → ⊥) → k < 65535
 less k a b = omega arith
@@ -162,7 +162,7 @@ module _ {E : Type 0} (p : PointStore E) where
 -- and after a check that fails
 module _ {E : Type 0} (s : Store) (m : Memory E) (answer : Option Figures) (a : answer ≡ checked (point_store s (elementless m))) (why : Refusal) (e : ok_or answer IllFormed ≡ Err why) (i l : ℕ) where
   pub inc_ill_formed : outcome (refused (number why)) (point_store s m) ≡ inc_spec (point_store s m) i l
-  inc_ill_formed = let f = failed s m answer a why e in rw f.1 (sym (inc_ill (point_store s m) f.0 i l))
+  inc_ill_formed = let f = check_failed s m answer IllFormed a why e in rw f.1 (sym (inc_ill (point_store s m) f.0 i l))
 
   pub dec_ill_formed : outcome (refused (number why)) (point_store s m) ≡ dec_spec (point_store s m) i l
-  dec_ill_formed = let f = failed s m answer a why e in rw f.1 (sym (dec_ill (point_store s m) f.0 i l))
+  dec_ill_formed = let f = check_failed s m answer IllFormed a why e in rw f.1 (sym (dec_ill (point_store s m) f.0 i l))

@@ -1,5 +1,5 @@
 -- The ways out of the readings.
-use Rattle.std.specs.Prelude.{ℕ, Bool, true, false, ◌≡◌, get_or, Option, Ok, Err, []}
+use Rattle.std.specs.Prelude.{ℕ, Bool, true, false, ◌≡◌, get_or, Option, Some, None, Ok, Err, []}
 use Rattle.std.specs.Option.{ok_or}
 use Rattle.std.proofs.Common.{sym, ◌∙◌}
 use Rattle.terms.specs.declared.Refusal.{Refusal}
@@ -17,9 +17,9 @@ use Rattle.store_definitions.specs.Counting.{count_spec, live_number_spec, free_
 use Rattle.store_laws.specs.IllFormedLaws.{count_ill, live_number_ill, free_start_ill}
 use Rattle.store_check.specs.declared.Figures.{Figures}
 use Rattle.store_check.specs.CheckLaws.{elementless}
-use Rattle.store_check.specs.Checked.{checked, checked_lengths, checked_ok, checked_err}
+use Rattle.store_check.specs.Checked.{checked, checked_some, checked_none, check_passed, check_failed}
 use Rattle.store_check.specs.Entries.{counts_live}
-use Rattle.store_check.specs.Figures.{FiguresOf, counts_live_lem}
+use Rattle.store_check.specs.Figures.{counts_live_lem}
 use Rattle.store_counts.specs.Tables.{counts_alone}
 use Rattle.store_counts.specs.TestLaws.{live_alone}
 
@@ -45,39 +45,38 @@ module _ {E : Type 0} (p : PointStore E) where
   free_start_well_lem e = rw (well e)
 
 -- after the check
-pub checked_well : {E : Type 0} (p : PointStore E) (answer : Option Figures) (why : Refusal) (figures : Figures) → answer ≡ checked p → ok_or answer why ≡ Ok figures → well_formed p ≡ true
-checked_well p answer why figures a e = (checked_ok p answer why figures a e).0
+pub checked_well : {E R : Type 0} (p : PointStore E) (answer : Option Figures) (why : R) (figures : Figures) → answer ≡ checked p → ok_or answer why ≡ Ok figures → well_formed p ≡ true
+checked_well p None why figures a e = cc
+checked_well p (Some x) why figures a e = (checked_some p x (sym a)).0
+
+pub checked_ill : {E R : Type 0} (p : PointStore E) (answer : Option Figures) (why other : R) → answer ≡ checked p → ok_or answer why ≡ Err other → (well_formed p ≡ false) × (other ≡ why)
+checked_ill p None why other a e = (checked_none p (sym a), cc)
+checked_ill p (Some x) why other a e = cc
 
 -- it sees of the elements how many there are
 module _ {E : Type 0} (s : Store) (m : Memory E) (answer : Option Figures) (a : answer ≡ checked (point_store s (elementless m))) where
   abbrev p : PointStore E
   p = point_store s m
 
-  pub passed : (figures : Figures) → ok_or answer IllFormed ≡ Ok figures → (well_formed p ≡ true) × FiguresOf figures p
-  passed figures e = checked_ok p answer IllFormed figures (a ∙ checked_lengths s m) e
-
-  pub failed : (why : Refusal) → ok_or answer IllFormed ≡ Err why → (well_formed p ≡ false) × (why ≡ IllFormed)
-  failed why e = checked_err p answer IllFormed why (a ∙ checked_lengths s m) e
-
   pub count_refused : (why : Refusal) → ok_or answer IllFormed ≡ Err why → (i : ℕ) → refused (number why) ≡ count_spec p i
-  count_refused why e i = let f = failed why e in rw f.1 (sym (count_ill p f.0 i))
+  count_refused why e i = let f = check_failed s m answer IllFormed a why e in rw f.1 (sym (count_ill p f.0 i))
 
   pub live_number_refused : (why : Refusal) → ok_or answer IllFormed ≡ Err why → refused (number why) ≡ live_number_spec p
-  live_number_refused why e = let f = failed why e in rw f.1 (sym (live_number_ill p f.0))
+  live_number_refused why e = let f = check_failed s m answer IllFormed a why e in rw f.1 (sym (live_number_ill p f.0))
 
   pub free_start_refused : (why : Refusal) → ok_or answer IllFormed ≡ Err why → refused (number why) ≡ free_start_spec p
-  free_start_refused why e = let f = failed why e in rw f.1 (sym (free_start_ill p f.0))
+  free_start_refused why e = let f = check_failed s m answer IllFormed a why e in rw f.1 (sym (free_start_ill p f.0))
 
   module _ (figures : Figures) (e : ok_or answer IllFormed ≡ Ok figures) where
     pub live_number_read : is figures.live ≡ live_number_spec p
-    live_number_read = let f = passed figures e in live_number_well p f.0 figures.live f.1.live_is
+    live_number_read = let f = check_passed s m answer IllFormed a figures e in live_number_well p f.0 figures.live f.1.live_is
 
     pub free_start_read : is s.start_free_region ≡ free_start_spec p
-    free_start_read = free_start_well_lem p (passed figures e).0
+    free_start_read = free_start_well_lem p (check_passed s m answer IllFormed a figures e).0
 
     module _ (i : ℕ) (used : Bool) (u : used ≡ live (point_store s (counts_alone m.reference_count [])) i) where
       pub count_of_dead : used ≡ false → refused 5 ≡ count_spec p i
-      count_of_dead d = count_dead p (passed figures e).0 i (sym (u ∙ live_alone p i) ∙ d)
+      count_of_dead d = count_dead p (check_passed s m answer IllFormed a figures e).0 i (sym (u ∙ live_alone p i) ∙ d)
 
       pub count_of_live : used ≡ true → (n : ℕ) → n ≡ get_or m.reference_count i 0 → is n ≡ count_spec p i
-      count_of_live d n f = count_live p (passed figures e).0 i (sym (u ∙ live_alone p i) ∙ d) n f
+      count_of_live d n f = count_live p (check_passed s m answer IllFormed a figures e).0 i (sym (u ∙ live_alone p i) ∙ d) n f
