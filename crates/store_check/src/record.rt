@@ -42,8 +42,8 @@ pub fn lengths_of(
     }
 }
 
-// All but the table of classes: without the call to its test this is short enough for the compiler to put into a caller.
-pub fn numbers_well(s: Store, lent: Lengths) -> bool
+// All but the table of classes.
+fn numbers_well(s: Store, lent: Lengths) -> bool
     ensures { result ≡ numbers_test s lent.floats lent.window lent.counts lent.places lent.starts lent.ends }
 {
     let dimensions = s.dimensions;
@@ -61,6 +61,8 @@ pub fn numbers_well(s: Store, lent: Lengths) -> bool
     false
 }
 
+// Put into its callers, of which a hold's check is one: as a call it takes a quarter of a hold's add.
+#[inline(always)]
 pub fn record_well(s: Store, lent: Lengths) -> bool
     ensures { result ≡ record_test s lent.floats lent.window lent.counts lent.places lent.starts lent.ends }
 {
