@@ -13,9 +13,10 @@ ghost use Rattle.terms.specs.Refusals.{number};
 
 use crate::answers::{added_out, done_number, number_out};
 use crate::hold_record::{HOLD_WORDS, hold_in, hold_out, hold_write};
-use crate::opening::{shape_allowed, shape_in};
+use crate::opening::shape_in;
 use hold_definitions::Hold;
 use store_definitions::{Shape, Tables};
+use store_rows::shape_allowed;
 use terms::Refusal;
 
 // Why a record that is too short is refused: the shape is looked at first, then the width.

@@ -2,13 +2,13 @@
 ghost use Rattle.std.specs.Prelude.{◌≡◌, ◌≤◌, [], length};
 ghost use Rattle.store_definitions.specs.Answers.{opened_means};
 ghost use Rattle.store_definitions.specs.Lent.{held};
-ghost use Rattle.store_definitions.specs.Opening.{opened_store, shape_allowed};
+ghost use Rattle.store_definitions.specs.Opening.{opened_store};
 ghost use Rattle.terms.specs.Refusals.{number};
 ghost use Rattle.point_store_c.specs.ExportedStore.{returned, opened_words, exported, shape_in, short_record, exported_opening};
 
 use crate::record::{RECORD_WORDS, record_write};
-use store_check::bounds_hold;
 use store_definitions::{Shape, Store};
+use store_rows::shape_allowed;
 use terms::Refusal;
 
 // What a flag above 1 stands for: a shape of zeros, which is outside the bounds.
@@ -43,15 +43,6 @@ pub fn shape_in(
         internal_rotation: false,
         store_labels: false,
     }
-}
-
-// Whether the shape is within the bounds.
-#[tactic(auto, unfolding(store_definitions::specs::Bounds::start_allowed))]
-pub fn shape_allowed(shape: Shape) -> bool
-    ensures { result ≡ shape_allowed shape }
-{
-    let within = bounds_hold(shape.dimensions, shape.shingle_size, shape.capacity);
-    within & ((1 <= shape.initial_capacity) & (shape.initial_capacity <= shape.capacity))
 }
 
 // Why a record that is too short is refused: the shape is looked at first.

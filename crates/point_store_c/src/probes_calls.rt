@@ -14,11 +14,12 @@ ghost use Rattle.point_store_c.specs.ProbesRecords.{probes_in};
 ghost use Rattle.terms.specs.Refusals.{number};
 
 use crate::answers::{added_out, done_number};
-use crate::opening::{shape_allowed, shape_in};
+use crate::opening::shape_in;
 use crate::probes_record::{PROBES_WORDS, probes_in, probes_out, probes_write};
 use probes_check::eight_probes;
 use probes_definitions::Probes;
 use store_definitions::{Shape, Tables};
+use store_rows::shape_allowed;
 use terms::Refusal;
 
 // Why a record that is too short is refused: the shape is looked at first.
