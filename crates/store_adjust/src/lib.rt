@@ -40,7 +40,7 @@ pub fn adjust_unchecked(
     requires { well_formed (point_store s.old (tables floats window reference_count.old location.old index_starts.old index_ends.old labels.now label_attributes.now label_count.old label_starts.old label_ends.old attributes.now attribute_count.old attribute_starts.old attribute_ends.old)) ≡ true }
     ensures { outcome (adjusted_means result) (point_store s.new (tables floats window reference_count.new location.new index_starts.new index_ends.new labels.now label_attributes.now label_count.new label_starts.new label_ends.new attributes.now attribute_count.new attribute_starts.new attribute_ends.new)) ≡ adjust_spec (point_store s.old (tables floats window reference_count.old location.old index_starts.old index_ends.old labels.now label_attributes.now label_count.old label_starts.old label_ends.old attributes.now attribute_count.old attribute_starts.old attribute_ends.old)) (pairings_of pairs.now) }
 {
-    for i in 0..pairs.len() {
+    for (i, pair) in pairs.iter().enumerate() {
         let adjusted = adjust_pair(
             s,
             floats,
@@ -58,7 +58,7 @@ pub fn adjust_unchecked(
             attribute_count,
             attribute_starts,
             attribute_ends,
-            pairs[i],
+            *pair,
         );
         if let Err(why) = adjusted {
             return Err(AdjustRefusal {
