@@ -43,7 +43,7 @@ one_more c {start} {before} {answers} {a} {p} {q} ensures run =
 pub ran : {start : PointHold ℕ} {before : List (HoldAdd ℕ)} {answers : List Answer} {q : PointHold ℕ} → HoldRan start before answers q → IsHoldRun start before answers q
 unfolding hold_after hold_answers_to
 ran none_yet = record { hold = refl; answers_same = refl }
-ran (adds t a b c d e f g h i j k l m n o x y point label r before ensures) = one_more (record { point = point.entry; code = label }) ensures (ran before)
+ran (adds t after a b c d e f g h i j k l m n o x y point label r before ensures) = one_more (record { point = point.entry; code = label }) ensures (ran before)
 
 -- and so the guarantee is one of the program
 pub hold_program_guaranteed : {s : Shape} {width : ℕ} {text : List ℕ} {m : HoldMemory ℕ} {start : PointHold ℕ} {before : List (HoldAdd ℕ)} {answers : List Answer} {q : PointHold ℕ}

@@ -1,7 +1,6 @@
 -- What a program does that opens a hold and hands each add the record and the memory as the last one left them. Each constructor is
 -- one call of the code: its premise is the equation that the call's contract ensures. Adds stand with the last one first.
 use Rattle.std.specs.Prelude.{ℕ, List, [], ◌∷◌, ◌≡◌, Option, Result, Ok}
-use denote.Triple.Both.{Both}
 use Rattle.terms.specs.declared.Refusal.{Refusal}
 use Rattle.float_bits.specs.Words.{words_equal}
 use Rattle.store_definitions.specs.declared.Shape.{Shape}
@@ -28,7 +27,7 @@ pub data HoldOpened : Shape → ℕ → List ℕ → HoldMemory ℕ → PointHol
 pub data HoldRan (start : PointHold ℕ) : List (HoldAdd ℕ) → List Answer → PointHold ℕ → Type 0 where
   none_yet : HoldRan start [] [] start
   -- hold::add
-  adds : {before : List (HoldAdd ℕ)} {answers : List Answer} (h : Both Hold Hold) (store last_known_shingle reference_count location index_starts index_ends labels label_attributes label_count label_starts label_ends attributes attribute_count attribute_starts attribute_ends held_indices held_labels : Slice) (point : Slice) (label : ℕ) (answer : Result (Option Kept) Refusal)
-      → HoldRan start before answers (point_hold h.entry (hold_entered store last_known_shingle reference_count location index_starts index_ends labels label_attributes label_count label_starts label_ends attributes attribute_count attribute_starts attribute_ends held_indices held_labels))
-      → hold_outcome (added_means answer) (point_hold h.exit (hold_left store last_known_shingle reference_count location index_starts index_ends labels label_attributes label_count label_starts label_ends attributes attribute_count attribute_starts attribute_ends held_indices held_labels)) ≡ hold_add_spec words_equal 0 (point_hold h.entry (hold_entered store last_known_shingle reference_count location index_starts index_ends labels label_attributes label_count label_starts label_ends attributes attribute_count attribute_starts attribute_ends held_indices held_labels)) point.entry label
-      → HoldRan start (record { point = point.entry; code = label } ∷ before) (added_means answer ∷ answers) (point_hold h.exit (hold_left store last_known_shingle reference_count location index_starts index_ends labels label_attributes label_count label_starts label_ends attributes attribute_count attribute_starts attribute_ends held_indices held_labels))
+  adds : {before : List (HoldAdd ℕ)} {answers : List Answer} (h after : Hold) (store last_known_shingle reference_count location index_starts index_ends labels label_attributes label_count label_starts label_ends attributes attribute_count attribute_starts attribute_ends held_indices held_labels : Slice) (point : Slice) (label : ℕ) (answer : Result (Option Kept) Refusal)
+      → HoldRan start before answers (point_hold h (hold_entered store last_known_shingle reference_count location index_starts index_ends labels label_attributes label_count label_starts label_ends attributes attribute_count attribute_starts attribute_ends held_indices held_labels))
+      → hold_outcome (added_means answer) (point_hold after (hold_left store last_known_shingle reference_count location index_starts index_ends labels label_attributes label_count label_starts label_ends attributes attribute_count attribute_starts attribute_ends held_indices held_labels)) ≡ hold_add_spec words_equal 0 (point_hold h (hold_entered store last_known_shingle reference_count location index_starts index_ends labels label_attributes label_count label_starts label_ends attributes attribute_count attribute_starts attribute_ends held_indices held_labels)) point.entry label
+      → HoldRan start (record { point = point.entry; code = label } ∷ before) (added_means answer ∷ answers) (point_hold after (hold_left store last_known_shingle reference_count location index_starts index_ends labels label_attributes label_count label_starts label_ends attributes attribute_count attribute_starts attribute_ends held_indices held_labels))

@@ -46,15 +46,15 @@ one_more x {start} {before} {answers} {a} {p} {q} ensures run =
 pub ran : {start : PointProbes ℕ} {before : List (ProbeSet ℕ)} {answers : List Answer} {q : PointProbes ℕ} → ProbesRan start before answers q → IsProbesRun start before answers q
 unfolding probes_after probes_answers_to
 ran none_yet = record { probes = refl; answers_same = refl }
-ran (sets p a b c d e f g h i j k l m n o readings label r before ensures) = one_more (record { readings = of_floats readings; code = label }) ensures (ran before)
-ran (sets_words p a b c d e f g h i j k l m n o kinds words label r before ensures decided) =
+ran (sets p after a b c d e f g h i j k l m n o readings label r before ensures) = one_more (record { readings = of_floats readings; code = label }) ensures (ran before)
+ran (sets_words p after a b c d e f g h i j k l m n o kinds words label r before ensures decided) =
     one_more (record { readings = of_kinds kinds.entry words.entry; code = label })
-    (ensures ∙ kinds_set words_equal 0 (point_probes p.entry (entered a b c d e f g h i j k l m n o)) kinds.entry words.entry label decided)
+    (ensures ∙ kinds_set words_equal 0 (point_probes p (entered a b c d e f g h i j k l m n o)) kinds.entry words.entry label decided)
     (ran before)
-ran (no_set p a b c d e f g h i j k l m n o kinds words label r before ensures number decided) =
+ran (no_set p after a b c d e f g h i j k l m n o kinds words label r before ensures number decided) =
     let run = ran before in
     record {
-      probes = ap (λ (x : ProbesOutcome ℕ). x.after) ensures ∙ kinds_none words_equal 0 (point_probes p.entry (entered a b c d e f g h i j k l m n o)) kinds.entry words.entry label number decided ∙ run.probes;
+      probes = ap (λ (x : ProbesOutcome ℕ). x.after) ensures ∙ kinds_none words_equal 0 (point_probes p (entered a b c d e f g h i j k l m n o)) kinds.entry words.entry label number decided ∙ run.probes;
       answers_same = run.answers_same;
     }
 

@@ -1,7 +1,6 @@
 -- What a program does that opens a product and hands each set the record and the memory as the last one left them. Each constructor
 -- is one call of the code: its premise is the equation that the call's contract ensures. Sets stand with the last one first.
 use Rattle.std.specs.Prelude.{ℕ, List, [], ◌∷◌, ◌≡◌, Option, Result, Ok}
-use denote.Triple.Both.{Both}
 use Rattle.terms.specs.declared.Refusal.{Refusal}
 use Rattle.interval_store_manager.specs.Calls.{go, refuse}
 use Rattle.float_bits.specs.Words.{words_equal}
@@ -31,19 +30,19 @@ pub data ProbesOpened : Shape → List ℕ → Memory ℕ → PointProbes ℕ �
 pub data ProbesRan (start : PointProbes ℕ) : List (ProbeSet ℕ) → List Answer → PointProbes ℕ → Type 0 where
   none_yet : ProbesRan start [] [] start
   -- probes::set
-  sets : {before : List (ProbeSet ℕ)} {answers : List Answer} (p : Both Probes Probes) (store last_known_shingle reference_count location index_starts index_ends labels label_attributes label_count label_starts label_ends attributes attribute_count attribute_starts attribute_ends : Slice) (readings : List Reading) (label : ℕ) (answer : Result (Option Kept) Refusal)
-      → ProbesRan start before answers (point_probes p.entry (entered store last_known_shingle reference_count location index_starts index_ends labels label_attributes label_count label_starts label_ends attributes attribute_count attribute_starts attribute_ends))
-      → probes_outcome (added_means answer) (point_probes p.exit (left store last_known_shingle reference_count location index_starts index_ends labels label_attributes label_count label_starts label_ends attributes attribute_count attribute_starts attribute_ends)) ≡ set_spec words_equal 0 (point_probes p.entry (entered store last_known_shingle reference_count location index_starts index_ends labels label_attributes label_count label_starts label_ends attributes attribute_count attribute_starts attribute_ends)) (of_floats readings) label
-      → ProbesRan start (record { readings = of_floats readings; code = label } ∷ before) (added_means answer ∷ answers) (point_probes p.exit (left store last_known_shingle reference_count location index_starts index_ends labels label_attributes label_count label_starts label_ends attributes attribute_count attribute_starts attribute_ends))
+  sets : {before : List (ProbeSet ℕ)} {answers : List Answer} (p after : Probes) (store last_known_shingle reference_count location index_starts index_ends labels label_attributes label_count label_starts label_ends attributes attribute_count attribute_starts attribute_ends : Slice) (readings : List Reading) (label : ℕ) (answer : Result (Option Kept) Refusal)
+      → ProbesRan start before answers (point_probes p (entered store last_known_shingle reference_count location index_starts index_ends labels label_attributes label_count label_starts label_ends attributes attribute_count attribute_starts attribute_ends))
+      → probes_outcome (added_means answer) (point_probes after (left store last_known_shingle reference_count location index_starts index_ends labels label_attributes label_count label_starts label_ends attributes attribute_count attribute_starts attribute_ends)) ≡ set_spec words_equal 0 (point_probes p (entered store last_known_shingle reference_count location index_starts index_ends labels label_attributes label_count label_starts label_ends attributes attribute_count attribute_starts attribute_ends)) (of_floats readings) label
+      → ProbesRan start (record { readings = of_floats readings; code = label } ∷ before) (added_means answer ∷ answers) (point_probes after (left store last_known_shingle reference_count location index_starts index_ends labels label_attributes label_count label_starts label_ends attributes attribute_count attribute_starts attribute_ends))
   -- probes::set_words
-  sets_words : {before : List (ProbeSet ℕ)} {answers : List Answer} (p : Both Probes Probes) (store last_known_shingle reference_count location index_starts index_ends labels label_attributes label_count label_starts label_ends attributes attribute_count attribute_starts attribute_ends : Slice) (kinds words : Slice) (label : ℕ) (answer : Result (Option Kept) Refusal)
-      → ProbesRan start before answers (point_probes p.entry (entered store last_known_shingle reference_count location index_starts index_ends labels label_attributes label_count label_starts label_ends attributes attribute_count attribute_starts attribute_ends))
-      → probes_outcome (added_means answer) (point_probes p.exit (left store last_known_shingle reference_count location index_starts index_ends labels label_attributes label_count label_starts label_ends attributes attribute_count attribute_starts attribute_ends)) ≡ set_kinds_spec words_equal 0 (point_probes p.entry (entered store last_known_shingle reference_count location index_starts index_ends labels label_attributes label_count label_starts label_ends attributes attribute_count attribute_starts attribute_ends)) kinds.entry words.entry label
+  sets_words : {before : List (ProbeSet ℕ)} {answers : List Answer} (p after : Probes) (store last_known_shingle reference_count location index_starts index_ends labels label_attributes label_count label_starts label_ends attributes attribute_count attribute_starts attribute_ends : Slice) (kinds words : Slice) (label : ℕ) (answer : Result (Option Kept) Refusal)
+      → ProbesRan start before answers (point_probes p (entered store last_known_shingle reference_count location index_starts index_ends labels label_attributes label_count label_starts label_ends attributes attribute_count attribute_starts attribute_ends))
+      → probes_outcome (added_means answer) (point_probes after (left store last_known_shingle reference_count location index_starts index_ends labels label_attributes label_count label_starts label_ends attributes attribute_count attribute_starts attribute_ends)) ≡ set_kinds_spec words_equal 0 (point_probes p (entered store last_known_shingle reference_count location index_starts index_ends labels label_attributes label_count label_starts label_ends attributes attribute_count attribute_starts attribute_ends)) kinds.entry words.entry label
       → kinds_decided kinds.entry words.entry ≡ go
-      → ProbesRan start (record { readings = of_kinds kinds.entry words.entry; code = label } ∷ before) (added_means answer ∷ answers) (point_probes p.exit (left store last_known_shingle reference_count location index_starts index_ends labels label_attributes label_count label_starts label_ends attributes attribute_count attribute_starts attribute_ends))
+      → ProbesRan start (record { readings = of_kinds kinds.entry words.entry; code = label } ∷ before) (added_means answer ∷ answers) (point_probes after (left store last_known_shingle reference_count location index_starts index_ends labels label_attributes label_count label_starts label_ends attributes attribute_count attribute_starts attribute_ends))
   -- the same call with kinds or lengths that are no set's: it is refused
-  no_set : {before : List (ProbeSet ℕ)} {answers : List Answer} (p : Both Probes Probes) (store last_known_shingle reference_count location index_starts index_ends labels label_attributes label_count label_starts label_ends attributes attribute_count attribute_starts attribute_ends : Slice) (kinds words : Slice) (label : ℕ) (answer : Result (Option Kept) Refusal)
-      → ProbesRan start before answers (point_probes p.entry (entered store last_known_shingle reference_count location index_starts index_ends labels label_attributes label_count label_starts label_ends attributes attribute_count attribute_starts attribute_ends))
-      → probes_outcome (added_means answer) (point_probes p.exit (left store last_known_shingle reference_count location index_starts index_ends labels label_attributes label_count label_starts label_ends attributes attribute_count attribute_starts attribute_ends)) ≡ set_kinds_spec words_equal 0 (point_probes p.entry (entered store last_known_shingle reference_count location index_starts index_ends labels label_attributes label_count label_starts label_ends attributes attribute_count attribute_starts attribute_ends)) kinds.entry words.entry label
+  no_set : {before : List (ProbeSet ℕ)} {answers : List Answer} (p after : Probes) (store last_known_shingle reference_count location index_starts index_ends labels label_attributes label_count label_starts label_ends attributes attribute_count attribute_starts attribute_ends : Slice) (kinds words : Slice) (label : ℕ) (answer : Result (Option Kept) Refusal)
+      → ProbesRan start before answers (point_probes p (entered store last_known_shingle reference_count location index_starts index_ends labels label_attributes label_count label_starts label_ends attributes attribute_count attribute_starts attribute_ends))
+      → probes_outcome (added_means answer) (point_probes after (left store last_known_shingle reference_count location index_starts index_ends labels label_attributes label_count label_starts label_ends attributes attribute_count attribute_starts attribute_ends)) ≡ set_kinds_spec words_equal 0 (point_probes p (entered store last_known_shingle reference_count location index_starts index_ends labels label_attributes label_count label_starts label_ends attributes attribute_count attribute_starts attribute_ends)) kinds.entry words.entry label
       → (n : ℕ) → kinds_decided kinds.entry words.entry ≡ refuse n
-      → ProbesRan start before answers (point_probes p.exit (left store last_known_shingle reference_count location index_starts index_ends labels label_attributes label_count label_starts label_ends attributes attribute_count attribute_starts attribute_ends))
+      → ProbesRan start before answers (point_probes after (left store last_known_shingle reference_count location index_starts index_ends labels label_attributes label_count label_starts label_ends attributes attribute_count attribute_starts attribute_ends))
