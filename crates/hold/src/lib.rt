@@ -1,7 +1,7 @@
 // A sliding hold over a store of its own: opening one, and an add that keeps the newest points and nothing older. Its readings
 // stand in `hold_check`.
 // Kept: the lent slices are parameters of their own, since the C interface lends as `&mut` only what a call writes, and a struct of
-// `&mut` slices comes back from a call under names of the checker's own (a).
+// `&mut` slices comes back from a call under names of the checker's own.
 #![tactic(auto)]
 
 ghost use Rattle.std.specs.Prelude.{true, ◌≡◌};

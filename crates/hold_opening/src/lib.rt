@@ -1,4 +1,5 @@
 // Opening a hold in lent memory: its store, its width, and an empty list.
+// Kept: an opening writes to slices that stand nowhere together but in its own parameters, so a struct of them would be made for one call.
 #![tactic(auto)]
 
 ghost use Rattle.std.specs.Prelude.{◌≡◌};

@@ -1,4 +1,5 @@
 // Opening the label half: the first entries of each table made 0, and the managers as new makes them.
+// Kept: an opening writes to slices that stand nowhere together but in its own parameters, so a struct of them would be made for one call.
 #![tactic(auto)]
 
 ghost use Rattle.std.specs.Prelude.{◌≡◌};

@@ -63,6 +63,7 @@ impl Replayed {
     fn answer(&mut self, call: Call, argument: usize) -> Result<usize, Refusal> {
         let starts = &mut self.starts;
         let ends = &mut self.ends;
+        // Kept: each call takes arguments of its own, which a table of functions would have to carry all.
         match call {
             Call::New => {
                 self.manager = IntervalStoreManager::new(argument, starts, ends)?;

@@ -24,4 +24,5 @@ pub use shape::Shape;
 pub use words::copy_from;
 
 // The index at a place where no point stands.
+// Kept: sixteen bits an entry, where an Option would take twice that of the stack.
 const NO_INDEX: u16 = 65535;

@@ -7,6 +7,7 @@ use probes_definitions::Reading;
 use terms::FloatBits;
 
 // As the C interface writes it.
+// Kept: `u8::from(reading)` would not say that the number is the kind.
 fn kind_of(reading: Reading) -> u8
     ensures { result ≡ kind_of reading }
 {
@@ -18,6 +19,7 @@ fn kind_of(reading: Reading) -> u8
 }
 
 // A NaN has the one word that stands for it, an absent reading that of 0.0, which is not looked at.
+// Kept: `u32::from(reading)` would not say that the number is the float's word.
 fn word_in(reading: Reading) -> FloatBits
     ensures { result ≡ word_in reading }
 {

@@ -1,7 +1,7 @@
 // A set of eight readings taken by a product: one add of the store, and the tallies. Opening stands in `probes_opening`, the reading of
 // the tallies in `probes_check`.
 // Kept: the lent slices are parameters of their own, since the C interface lends as `&mut` only what a call writes, and a struct of
-// `&mut` slices comes back from a call under names of the checker's own (a).
+// `&mut` slices comes back from a call under names of the checker's own.
 #![tactic(auto)]
 
 ghost use Rattle.std.specs.Prelude.{true, ◌≡◌, length};

@@ -1,4 +1,5 @@
 // Opening a product in lent memory: its store, and no estimates yet.
+// Kept: an opening writes to slices that stand nowhere together but in its own parameters, so a struct of them would be made for one call.
 #![tactic(auto)]
 
 ghost use Rattle.std.specs.Prelude.{◌&&◌, ◌≡◌, leb};

@@ -18,6 +18,7 @@ use std::{fs, io};
 use store_definitions::Shape;
 
 fn make(alloc: Global, block: &mut Block, call: Call, line: &Line) -> Result<Answer, AllocError> {
+    // Kept: each call takes arguments of its own, which a table of functions would have to carry all.
     match call {
         Call::Open => changing::open(alloc, block, line),
         Call::Add => changing::add(alloc, block, line),

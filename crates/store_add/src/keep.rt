@@ -19,6 +19,7 @@ use store_definitions::{Kept, Store};
 use terms::{FloatBits, PointIndex, Refusal};
 
 #[tactic(auto, unfolding(placement::specs::Laying::place_of))]
+// Kept: `usize::from(laid)` would not say that the number is the place.
 fn place_of(laid: Laid) -> usize
     ensures { result ≡ place_of laid }
 {

@@ -1,6 +1,6 @@
 // Document 01's add: the check, the decision, and then what was decided, each table written by one function.
 // Kept: the lent slices are parameters of their own, since the C interface lends as `&mut` only what a call writes, and a struct of
-// `&mut` slices comes back from a call under names of the checker's own (a).
+// `&mut` slices comes back from a call under names of the checker's own.
 #![tactic(auto)]
 
 ghost use Rattle.std.specs.Prelude.{true, ◌≡◌};

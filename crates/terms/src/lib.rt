@@ -42,9 +42,11 @@ pub struct LabelIndex(pub usize);
 pub type FloatBits = u32;
 
 // What document 01 calls none: the index that no point and no label has.
+// Kept: the C interface takes and writes this number where an Option would say None.
 pub const NONE: usize = 0xffff_ffff_ffff_ffff;
 
 // The place of an index that has no point.
+// Kept: an entry of the lent table has sixteen bits, so that there is no place is one of their numbers.
 pub const EMPTY_PLACE: u16 = 65535;
 
 // Document 01's number of a refusal.
