@@ -9,6 +9,7 @@ use interval_store_manager::IntervalStoreManager;
 use terms::{LabelIndex, NONE, Refusal};
 
 // Document 01: 'inc of a point or label count at 65,535'.
+// Kept: the point's largest count stands in `store_counts`, in the type of its own comparison; they are two bounds of one number.
 const LARGEST_COUNT: u16 = 65535;
 
 #[tactic(auto, unfolding(crate::specs::Decisions::in_use))]

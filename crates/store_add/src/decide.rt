@@ -10,6 +10,7 @@ use store_definitions::Store;
 use terms::Refusal;
 
 // Document 01: 'sequence number at 4,294,967,295'.
+// Kept: here it ends the adds; in `store_check` the same number is a clause of the record.
 const LAST_SEQUENCE: u32 = 4294967295;
 
 // What an add that is not refused does: it keeps its point, or it waits for more points of the shingle.

@@ -7,6 +7,7 @@ use class_table::table_allowed;
 use store_definitions::Store;
 
 // Every `u32` is at most this; the clause stands with the others, and the compiler leaves it out.
+// Kept: here it is a clause of the record; in `store_add` the same number ends the adds.
 const LAST_SEQUENCE: u32 = 4294967295;
 
 // How many entries the lent slices of the rows and of the points have.

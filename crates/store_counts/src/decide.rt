@@ -10,6 +10,7 @@ use store_definitions::Store;
 use terms::{LabelIndex, PointIndex, Refusal};
 
 // Document 01: 'inc of a point or label count at 65,535'.
+// Kept: the label's largest count stands in `labels`, in the type of its own comparison; they are two bounds of one number.
 const LARGEST_COUNT: usize = 65535;
 
 // A point's count, 0 past the end of the lent slice: as the definitions read a list.
