@@ -34,6 +34,7 @@ fn short_hold(shape: Shape, width: usize) -> Refusal
 }
 
 // A refused opening leaves the record.
+// Kept: one function for store, hold and product would take the writer of the record as a closure, and save four lines.
 fn opened_hold_out(words: &mut [u64], answer: Result<Hold, Refusal>) -> u64
     requires { 41 ≤ length words.old }
     ensures { (m : HoldMemory ℕ) → hold_exported result words.new [] m ≡ hold_opened_as words.old (hold_opened answer m) }

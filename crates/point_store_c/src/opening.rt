@@ -57,6 +57,7 @@ fn short_record(shape: Shape) -> Refusal
 }
 
 // A refused opening leaves the record.
+// Kept: one function for store, hold and product would take the writer of the record as a closure, and save four lines.
 fn opened_out(words: &mut [u64], answer: Result<Store, Refusal>) -> u64
     requires { 39 ≤ length words.old }
     ensures { (result ≡ returned (opened_means answer)) × (words.new ≡ opened_words words.old (opened_means answer) (opened_store answer)) }

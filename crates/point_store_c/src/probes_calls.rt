@@ -41,6 +41,7 @@ fn short_probes(shape: Shape) -> Refusal
 }
 
 // A refused opening leaves the record.
+// Kept: one function for store, hold and product would take the writer of the record as a closure, and save four lines.
 fn opened_probes_out(words: &mut [u64], answer: Result<Probes, Refusal>) -> u64
     requires { 47 ≤ length words.old }
     ensures { (m : Memory ℕ) → exported result words.new [] m ≡ probes_opened_as words.old (probes_opened answer m) }
