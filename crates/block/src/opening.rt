@@ -1,70 +1,67 @@
 // Opening, with document 01's table of classes or another.
-use crate::{Block, Ended};
+use crate::Block;
 use class_table::reason_classes_text;
 use store_definitions::Shape;
 use store_rows::open;
+use terms::Refusal;
 
-pub fn open_block(shape: Shape) -> Ended {
-    let text = reason_classes_text();
-    open_with_classes(shape, &text[..])
-}
+impl Block {
+    pub fn open(shape: Shape) -> Result<Block, Refusal> {
+        Block::open_with_classes(shape, &reason_classes_text())
+    }
 
-pub fn open_with_classes(shape: Shape, class_text: &[u8]) -> Ended {
-    let mut floats = [0u32; 512];
-    let mut window = [0u32; 32];
-    let mut counts = [0u16; 16];
-    let mut places = [0u16; 16];
-    let mut starts = [0u16; 16];
-    let mut ends = [0u16; 16];
-    let mut codes = [0u8; 16];
-    let mut slots = [0u16; 16];
-    let mut label_counts = [0u16; 16];
-    let mut label_starts = [0u16; 16];
-    let mut label_ends = [0u16; 16];
-    let mut classes = [0u8; 16];
-    let mut slot_counts = [0u32; 16];
-    let mut slot_starts = [0u16; 16];
-    let mut slot_ends = [0u16; 16];
-    let r = open(
-        shape,
-        &mut floats[..],
-        &mut window[..],
-        &mut counts[..],
-        &mut places[..],
-        &mut starts[..],
-        &mut ends[..],
-        &mut codes[..],
-        &mut slots[..],
-        &mut label_counts[..],
-        &mut label_starts[..],
-        &mut label_ends[..],
-        &mut classes[..],
-        &mut slot_counts[..],
-        &mut slot_starts[..],
-        &mut slot_ends[..],
-        class_text,
-    );
-    let store = r.store;
-    let answer = r.answer;
-    Ended {
-        block: Block {
+    pub fn open_with_classes(shape: Shape, class_text: &[u8]) -> Result<Block, Refusal> {
+        let mut floats = [0; 512];
+        let mut window = [0; 32];
+        let mut reference_count = [0; 16];
+        let mut location = [0; 16];
+        let mut index_starts = [0; 16];
+        let mut index_ends = [0; 16];
+        let mut labels = [0; 16];
+        let mut label_attributes = [0; 16];
+        let mut label_count = [0; 16];
+        let mut label_starts = [0; 16];
+        let mut label_ends = [0; 16];
+        let mut attributes = [0; 16];
+        let mut attribute_count = [0; 16];
+        let mut attribute_starts = [0; 16];
+        let mut attribute_ends = [0; 16];
+        let store = open(
+            shape,
+            &mut floats,
+            &mut window,
+            &mut reference_count,
+            &mut location,
+            &mut index_starts,
+            &mut index_ends,
+            &mut labels,
+            &mut label_attributes,
+            &mut label_count,
+            &mut label_starts,
+            &mut label_ends,
+            &mut attributes,
+            &mut attribute_count,
+            &mut attribute_starts,
+            &mut attribute_ends,
+            class_text,
+        )?;
+        Ok(Block {
             store,
             floats,
             window,
-            counts,
-            places,
-            starts,
-            ends,
-            codes,
-            slots,
-            label_counts,
+            reference_count,
+            location,
+            index_starts,
+            index_ends,
+            labels,
+            label_attributes,
+            label_count,
             label_starts,
             label_ends,
-            classes,
-            slot_counts,
-            slot_starts,
-            slot_ends,
-        },
-        answer,
+            attributes,
+            attribute_count,
+            attribute_starts,
+            attribute_ends,
+        })
     }
 }

@@ -2,12 +2,13 @@
 use Prim.Native.Nat.{ℕ, zero, suc, ◌+◌, ◌-◌, ◌*◌, ◌≤◌, ◌<◌}
 use Rattle.std.proofs.Math.Numerals.{add-one}
 use native.Mathlib.Omega.{arith}
-use Rattle.std.specs.Prelude.{Bool, false, cond, ◌&&◌, ◌≡◌, length, get_or, take, drop, set}
+use Rattle.std.specs.Prelude.{Bool, false, cond, ◌&&◌, Some, None, ◌≡◌, length, get_or, take, drop, set}
 use Rattle.std.proofs.Math.Bool.{true, and-false}
 use mathlib.Core.List.{List, [], ◌∷◌, ◌++◌, append-nil}
 use Rattle.std.proofs.Math.Path.{refl, sym}
 use Rattle.std.proofs.Common.{ap, ◌∙◌, length-drop, drop_of_length-le, take-append-drop, length-take-le, take_all}
 use Rattle.std.proofs.Math.Seq.{drop-drop, take-suc-set, append_snoc}
+use Rattle.std.specs.Bool.{then_some}
 use Rattle.terms.specs.Rows.{all_equal}
 use Rattle.terms.specs.Below.{fails}
 use Rattle.decimal.specs.Field.{same_bytes}
@@ -16,7 +17,7 @@ use Rattle.decimal.specs.Lines.{line, lines}
 use Rattle.decimal.proofs.LinesLaws.{length_line}
 use Rattle.class_table.specs.Table.{table_allowed}
 use Rattle.class_table.specs.Marks.{class_too_large}
-use Rattle.class_table.specs.Text.{numbered, table_text, line_class, classes_of, accepted, turned_down, table_read}
+use Rattle.class_table.specs.Text.{numbered, table_text, line_class, classes_of, table_read}
 use Rattle.class_table.specs.TextLaws.{length_text}
 
 length_classes : (n : ℕ) (t : List ℕ) → length (classes_of n t) ≡ n
@@ -56,19 +57,19 @@ module _ (t : List ℕ) where
   unfolding table_text
   is_text = refl
 
-  refused_text : same_bytes t (table_text (classes_of 24 t)) ≡ false → turned_down ≡ table_read t
+  refused_text : same_bytes t (table_text (classes_of 24 t)) ≡ false → None ≡ table_read t
   unfolding table_read
   refused_text e = rw e
 
-  refused_table : table_allowed (classes_of 24 t) ≡ false → turned_down ≡ table_read t
+  refused_table : table_allowed (classes_of 24 t) ≡ false → None ≡ table_read t
   unfolding table_read
   refused_table e = rw (e, and-false (same_bytes t (table_text (classes_of 24 t))))
 
-  pub wrong_length : (length t ≡ 216 → ⊥) → turned_down ≡ table_read t
+  pub wrong_length : (length t ≡ 216 → ⊥) → None ≡ table_read t
   wrong_length d =
       refused_text (fails (same_bytes t (table_text (classes_of 24 t))) (λ e. d (ap length (same_equal t (table_text (classes_of 24 t)) e) ∙ length_text (classes_of 24 t) (length_classes 24 t))))
 
-  pub large_class : (i class : ℕ) → i < 24 → class ≡ line_class (drop (i * 9) t) → 9 < class → turned_down ≡ table_read t
+  pub large_class : (i class : ℕ) → i < 24 → class ≡ line_class (drop (i * 9) t) → 9 < class → None ≡ table_read t
   large_class i class h e l =
       refused_table (sym (class_too_large (classes_of 24 t) i h (rw (class_at 24 t i h, ← e) l)))
 
@@ -85,7 +86,7 @@ module _ (t : List ℕ) where
     line_right i class found h e f right before = sym (line_turn i class h e ∙ (rw (sym f ∙ right))) ∙ before
 
     pub line_wrong : (i class : ℕ) (found : Bool) → i < 24 → class ≡ line_class (drop (i * 9) t) → found ≡ same_bytes (take 9 (drop (i * 9) t)) (line 4 (i ∷ class ∷ []))
-        → found ≡ false → left_same t i ≡ left_same t 0 → turned_down ≡ table_read t
+        → found ≡ false → left_same t i ≡ left_same t 0 → None ≡ table_read t
     line_wrong i class found h e f wrong before =
         refused_text (sym is_text ∙ (sym before ∙ (line_turn i class h e ∙ (rw (sym f ∙ wrong)))))
 
@@ -107,10 +108,14 @@ module _ (t : List ℕ) where
 
     -- all lines are right: the table decides
     pub table_read_lem : (i : ℕ) (classes : List ℕ) (allowed : Bool) → i ≤ 24 → 24 ≤ i → length classes ≡ 24 → left_same t i ≡ left_same t 0 → filled t i classes ≡ classes_of 24 t
-        → allowed ≡ table_allowed classes → cond allowed (accepted classes) turned_down ≡ table_read t
+        → allowed ≡ table_allowed classes → then_some allowed classes ≡ table_read t
     unfolding table_read
     table_read_lem i classes allowed h k l same fill e =
         let q : i ≡ 24 = omega arith in
         let c : classes ≡ classes_of 24 t = all_filled classes l (rw q at fill) in
         let s : same_bytes t (table_text (classes_of 24 t)) ≡ true = sym is_text ∙ (sym (rw q at same) ∙ all_right) in
-        rw (e, c, s)
+        rw (e, c, s) (chosen (table_allowed (classes_of 24 t)))
+      where
+        chosen : (b : Bool) → then_some b (classes_of 24 t) ≡ cond b (Some (classes_of 24 t)) None
+        chosen true = refl
+        chosen false = refl

@@ -1,5 +1,5 @@
 -- Tables that are allowed and tables that are not, and texts that are turned down, computed.
-use Rattle.std.specs.Prelude.{ℕ, true, false, List, [], ◌∷◌, ◌++◌, ◌≡◌, refl, drop, set, replicate}
+use Rattle.std.specs.Prelude.{ℕ, true, false, None, List, [], ◌∷◌, ◌++◌, ◌≡◌, refl, drop, set, replicate}
 use Rattle.terms.specs.Rows.{all_equal}
 use Rattle.terms.specs.Below.{every_below}
 use Rattle.decimal.specs.Field.{column, columns, field, digit, value_from}
@@ -39,27 +39,27 @@ code_missing = refl
 abbrev text : List ℕ
 text = table_text reason_classes
 
-pub zero_code : (table_read (set text 2 48)).ok ≡ false
+pub zero_code : table_read (set text 2 48) ≡ None
 unfolding table_read table_text numbered classes_of lines line fields field columns column value_from digit all_equal reason_classes table_allowed every_below some_below largest_below
 zero_code = refl
 
-pub zero_class : (table_read (set text 51 48)).ok ≡ false
+pub zero_class : table_read (set text 51 48) ≡ None
 unfolding table_read table_text numbered classes_of lines line fields field columns column value_from digit all_equal reason_classes table_allowed every_below some_below largest_below
 zero_class = refl
 
-pub carriage_return : (table_read (set text 8 13)).ok ≡ false
+pub carriage_return : table_read (set text 8 13) ≡ None
 unfolding table_read table_text numbered classes_of lines line fields field columns column value_from digit all_equal reason_classes table_allowed every_below some_below largest_below
 carriage_return = refl
 
-pub code_twice : (table_read (set text 21 49)).ok ≡ false
+pub code_twice : table_read (set text 21 49) ≡ None
 unfolding table_read table_text numbered classes_of lines line fields field columns column value_from digit all_equal reason_classes table_allowed every_below some_below largest_below
 code_twice = refl
 
 -- one byte longer, one line shorter
-pub longer : (table_read (text ++ (10 ∷ []))).ok ≡ false
+pub longer : table_read (text ++ (10 ∷ [])) ≡ None
 unfolding table_read table_text numbered classes_of lines line fields field columns column value_from digit all_equal reason_classes table_allowed every_below some_below largest_below
 longer = refl
 
-pub shorter : (table_read (drop 9 text)).ok ≡ false
+pub shorter : table_read (drop 9 text) ≡ None
 unfolding table_read table_text numbered classes_of lines line fields field columns column value_from digit all_equal reason_classes table_allowed every_below some_below largest_below
 shorter = refl

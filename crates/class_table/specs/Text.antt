@@ -1,9 +1,8 @@
 -- Document 02, Point 6: the text of a table, and the table that a text holds.
-use Rattle.std.specs.Prelude.{ℕ, zero, suc, true, false, cond, ◌&&◌, List, [], ◌∷◌, take, drop, replicate}
+use Rattle.std.specs.Prelude.{ℕ, zero, suc, cond, ◌&&◌, Option, Some, None, unwrap_or, List, [], ◌∷◌, take, drop, replicate}
 use Rattle.decimal.specs.Field.{value, same_bytes}
 use Rattle.decimal.specs.Lines.{lines}
 use Rattle.class_table.specs.Table.{table_allowed}
-use Rattle.class_table.specs.declared.ClassReading.{ClassReading}
 
 -- each class behind its code, from a code on
 unfoldable pub numbered : ℕ → List ℕ → List (List ℕ)
@@ -22,13 +21,10 @@ unfoldable pub classes_of : ℕ → List ℕ → List ℕ
 classes_of zero t = []
 classes_of (suc n) t = line_class t ∷ classes_of n (drop 9 t)
 
-abbrev pub accepted : List ℕ → ClassReading
-accepted classes = record { ok = true; classes = classes }
-
--- a text that is not accepted comes with no class
-abbrev pub turned_down : ClassReading
-turned_down = record { ok = false; classes = replicate 24 0 }
-
 -- accepted is the text of an allowed table, and none other ('Any other text gets 17')
-unfoldable pub table_read : List ℕ → ClassReading
-table_read t = cond (same_bytes t (table_text (classes_of 24 t)) && table_allowed (classes_of 24 t)) (accepted (classes_of 24 t)) turned_down
+unfoldable pub table_read : List ℕ → Option (List ℕ)
+table_read t = cond (same_bytes t (table_text (classes_of 24 t)) && table_allowed (classes_of 24 t)) (Some (classes_of 24 t)) None
+
+-- the table of a text, and the table of zeros where it holds none
+abbrev pub table_of : List ℕ → List ℕ
+table_of t = unwrap_or (table_read t) (replicate 24 0)

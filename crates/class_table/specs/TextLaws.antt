@@ -1,7 +1,8 @@
 -- The text of a table is read back as the table, two tables share no text, and every accepted text is the text of its table.
-use Rattle.std.specs.Prelude.{ℕ, suc, ◌+◌, ◌*◌, ◌^◌, ◌≤◌, ◌<◌, Bool, true, false, cond, ◌&&◌, List, [], ◌∷◌, ◌++◌, ◌≡◌, refl, length, get_or, leb, eqb}
+use Rattle.std.specs.Prelude.{ℕ, suc, ◌+◌, ◌*◌, ◌^◌, ◌≤◌, ◌<◌, true, ◌&&◌, Option, Some, None, is_some, unwrap_or, List, [], ◌∷◌, ◌++◌, ◌≡◌, refl, length, get_or, replicate, leb, eqb}
 use Rattle.std.proofs.Common.{arith, append_assoc, append-nil, sym, ap, ◌∙◌, length-append, drop_at, eqb-true, leb-true}
 use Rattle.std.proofs.lemmas.Bool.{false≢true}
+use Rattle.std.proofs.lemmas.Option.{cond_some}
 use Rattle.terms.specs.Below.{every_below, both, every_at}
 use Rattle.decimal.specs.Field.{field, same_bytes}
 use Rattle.decimal.proofs.FieldLaws.{length_field}
@@ -9,7 +10,7 @@ use Rattle.decimal.specs.Bytes.{same_refl, same_equal}
 use Rattle.decimal.specs.Lines.{fields, line, lines}
 use Rattle.decimal.proofs.LinesLaws.{length_line, field_at}
 use Rattle.class_table.specs.Table.{class_of, occurs, largest, table_allowed}
-use Rattle.class_table.specs.Text.{numbered, table_text, line_class, classes_of, accepted, turned_down, table_read}
+use Rattle.class_table.specs.Text.{numbered, table_text, line_class, classes_of, table_read, table_of}
 
 -- ---- what an allowed table is
 
@@ -68,7 +69,7 @@ text_back classes e =
     ∙ classes_back 0 classes (λ k l. a.most k (omega (arith, a.codes)))
 
 -- the text of an allowed table is read back as the table
-pub text_read : (classes : List ℕ) → table_allowed classes ≡ true → table_read (table_text classes) ≡ accepted classes
+pub text_read : (classes : List ℕ) → table_allowed classes ≡ true → table_read (table_text classes) ≡ Some classes
 unfolding table_read
 text_read classes e = rw (text_back classes e, same_refl (table_text classes), e)
 
@@ -77,13 +78,16 @@ pub text_injective : (xs ys : List ℕ) → table_allowed xs ≡ true → table_
 text_injective xs ys a b e = sym (text_back xs a) ∙ ap (classes_of 24) e ∙ text_back ys b
 
 -- every accepted text is the text of its table, which is allowed
-pub text_accepted : (t : List ℕ) → (table_read t).ok ≡ true → (t ≡ table_text (table_read t).classes) × (table_allowed (table_read t).classes ≡ true)
+pub text_accepted : (t classes : List ℕ) → table_read t ≡ Some classes → (t ≡ table_text classes) × (table_allowed classes ≡ true)
 unfolding table_read
-text_accepted t e = go (same_bytes t (table_text (classes_of 24 t)) && table_allowed (classes_of 24 t)) refl e
+text_accepted t classes e =
+    let read = cond_some (same_bytes t (table_text (classes_of 24 t)) && table_allowed (classes_of 24 t)) (classes_of 24 t) classes e in
+    let p = both (same_bytes t (table_text (classes_of 24 t))) (table_allowed (classes_of 24 t)) read.0 in
+    rw (← read.1) (same_equal t (table_text (classes_of 24 t)) p.0, p.1)
+
+pub table_of_read : (t : List ℕ) → is_some (table_read t) ≡ true → table_read t ≡ Some (table_of t)
+table_of_read t = by (table_read t)
   where
-    go : (b : Bool) → (same_bytes t (table_text (classes_of 24 t)) && table_allowed (classes_of 24 t)) ≡ b → (cond b (accepted (classes_of 24 t)) turned_down).ok ≡ true
-        → (t ≡ table_text (cond b (accepted (classes_of 24 t)) turned_down).classes) × (table_allowed (cond b (accepted (classes_of 24 t)) turned_down).classes ≡ true)
-    go true f h =
-        let p = both (same_bytes t (table_text (classes_of 24 t))) (table_allowed (classes_of 24 t)) f in
-        (same_equal t (table_text (classes_of 24 t)) p.0, p.1)
-    go false f h = absurd (false≢true h)
+    by : (o : Option (List ℕ)) → is_some o ≡ true → o ≡ Some (unwrap_or o (replicate 24 0))
+    by (Some classes) e = refl
+    by None e = absurd (false≢true e)

@@ -16,15 +16,9 @@ pub fn table_allowed(classes: [u8; 24]) -> bool
 {
     let mut mask: u32 = 0;
     let mut high = false;
-    let mut code = 0;
-    while code < 24 {
-        let class = classes[code];
-        high = high | (9 < class);
-        mask = mask | bit(class);
-        code += 1;
+    for class in classes {
+        high |= 9 < class;
+        mask |= bit(class);
     }
-    if high {
-        return false;
-    }
-    (mask & (mask + 1)) == 0
+    !high && (mask & (mask + 1)) == 0
 }

@@ -9,10 +9,3 @@ mod reasons;
 pub use allowed::table_allowed;
 pub use read::read_classes;
 pub use reasons::reason_classes_text;
-
-// What a text holds: a table, or none that is allowed.
-#[derive(Clone, Copy)]
-pub struct ClassReading {
-    pub ok: bool,
-    pub classes: [u8; 24],
-}

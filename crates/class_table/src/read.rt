@@ -1,11 +1,9 @@
 // A text of classes read: every line is compared with the one that its code and class make.
-ghost use Rattle.std.specs.Prelude.{◌≡◌, [], ◌∷◌, ◌+◌, ◌≤◌, length, take, drop, cond};
+ghost use Rattle.std.specs.Prelude.{◌≡◌, [], ◌∷◌, ◌+◌, ◌≤◌, length, take, drop};
 ghost use Rattle.decimal.specs.Field.{same_bytes};
 ghost use Rattle.decimal.specs.Lines.{line};
-ghost use Rattle.class_table.specs.Table.{table_allowed};
-ghost use Rattle.class_table.specs.Text.{line_class, table_read, accepted, turned_down};
+ghost use Rattle.class_table.specs.Text.{line_class, table_read};
 
-use crate::ClassReading;
 use crate::allowed::table_allowed;
 
 // What columns 5 to 8 of the line count for.
@@ -28,49 +26,24 @@ fn is_class_line(text: &[u8], at: usize, code: usize, class: usize) -> bool
     decimal::is_line(&text[at..end], 4, &row)
 }
 
-fn turned_down() -> ClassReading
-    ensures { result ≡ turned_down }
-{
-    let classes = [0u8; 24];
-    ClassReading {
-        ok: false,
-        classes: classes,
-    }
-}
-
-// What is read, once every line is right.
-fn judged(classes: [u8; 24]) -> ClassReading
-    ensures { result ≡ cond (table_allowed classes) (accepted classes) turned_down }
-{
-    if table_allowed(classes) {
-        return ClassReading {
-            ok: true,
-            classes: classes,
-        };
-    }
-    turned_down()
-}
-
 // The table whose text this is.
-pub fn read_classes(text: &[u8]) -> ClassReading
+pub fn read_classes(text: &[u8]) -> Option<[u8; 24]>
     ensures { result ≡ table_read text.now }
 {
     if text.len() != 216 {
-        return turned_down();
+        return None;
     }
     let mut classes = [0u8; 24];
-    let mut code = 0;
-    while code < 24 {
+    for code in 0..24 {
         let at = code * 9;
         let class = class_in(text, at);
         if 9 < class {
-            return turned_down();
+            return None;
         }
         if !is_class_line(text, at, code, class) {
-            return turned_down();
+            return None;
         }
         classes[code] = class as u8;
-        code += 1;
     }
-    judged(classes)
+    table_allowed(classes).then_some(classes)
 }

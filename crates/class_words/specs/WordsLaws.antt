@@ -1,6 +1,6 @@
 -- The loops' turns, and a table written and read again.
 use Rattle.std.specs.Prelude.{ℕ, suc, ◌+◌, ◌≤◌, ◌<◌, Bool, true, ◌&&◌, List, [], ◌∷◌, ◌++◌, ◌≡◌, length, get_or, take, drop, set}
-use Rattle.std.proofs.Common.{add-one, append_assoc, sym, ap, ◌∙◌, length-drop, take-append-drop, take-suc, take-suc-set, take_all, get_or-drop, drop-drop, length-take-le}
+use Rattle.std.proofs.Common.{add-one, append_assoc, sym, ap, ◌∙◌, length-drop, take-append-drop, take-suc, drop-drop, length-take-le}
 use native.Mathlib.Omega.{arith}
 use Rattle.std.proofs.Math.Path.{refl}
 use Rattle.std.proofs.lemmas.List.Edits.{sets, sets-eq}
@@ -34,17 +34,6 @@ module _ (at : ℕ) (words : List ℕ) where
   unfolding classes_legal
   small_make h = every_make 24 (λ k. ltb (get_or words (at + k) 0) 256) (λ code l. lt-ltb (get_or words (at + code) 0) 256 (h code l))
 
-  -- one class read
-  pub class_read : at + 24 ≤ length words → (n : ℕ) (classes : List ℕ) → n < 24 → length classes ≡ 24 → take n classes ≡ take n (drop at words) → take (n + 1) (set classes n (get_or words (at + n) 0)) ≡ take (n + 1) (drop at words)
-  class_read lent n classes l sized e =
-      let long : n < length (drop at words) = rw (length-drop at words) (omega arith) in
-      rw (add-one n, take-suc-set classes n (get_or words (at + n) 0) (omega arith), take-suc (drop at words) n 0 long, get_or-drop at words n 0, e)
-
-  pub classes_read : (n : ℕ) (classes : List ℕ) → n ≤ 24 → 24 ≤ n → length classes ≡ 24 → take n classes ≡ take n (drop at words) → classes ≡ take 24 (drop at words)
-  classes_read n classes l u sized e =
-      let q : n ≡ 24 = omega arith in
-      sym (take_all 24 classes (omega arith)) ∙ (rw q at e)
-
 -- two runs of stores, the second after the first
 pub sets_after : (words : List ℕ) (at : ℕ) (vs ws : List ℕ) → sets (sets words at vs) (at + length vs) ws ≡ sets words at (vs ++ ws)
 sets_after words at [] ws = let e : at + 0 ≡ at = omega arith in rw e
@@ -60,10 +49,6 @@ class_written at words classes n l =
     ap (λ (k : ℕ). set (sets words at (take n classes)) (at + k) (get_or classes n 0)) (sym sized)
     ∙ sets_after words at (take n classes) (get_or classes n 0 ∷ [])
     ∙ ap (λ (vs : List ℕ). sets words at vs) (sym more)
-
-pub classes_written : (at : ℕ) (words classes : List ℕ) (n : ℕ) → n ≤ 24 → 24 ≤ n → length classes ≡ 24 → sets words at (take n classes) ≡ sets words at classes
-classes_written at words classes n l u sized =
-    ap (λ (vs : List ℕ). sets words at vs) (take_all n classes (omega arith))
 
 -- a table's own words written back leave the record
 pub read_written : (at : ℕ) (words : List ℕ) → at + 24 ≤ length words → sets words at (take 24 (drop at words)) ≡ words

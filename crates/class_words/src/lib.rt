@@ -10,14 +10,11 @@ pub fn classes_legal(words: &[u64], at: usize) -> bool
     requires { at + 24 ≤ length words.now }
     ensures { result ≡ classes_legal at words.now }
 {
-    let mut ok = true;
-    let mut code = 0;
-    while code < 24 {
-        let next = at + code;
-        ok = ok & (words[next] < 256);
-        code += 1;
+    let mut legal = true;
+    for code in 0..24 {
+        legal &= words[at + code] < 256;
     }
-    ok
+    legal
 }
 
 pub fn classes_in(words: &[u64], at: usize) -> [u8; 24]
@@ -25,11 +22,8 @@ pub fn classes_in(words: &[u64], at: usize) -> [u8; 24]
     ensures { result ≡ take 24 (drop at words.now) }
 {
     let mut classes = [0u8; 24];
-    let mut code = 0;
-    while code < 24 {
-        let next = at + code;
-        classes[code] = words[next] as u8;
-        code += 1;
+    for code in 0..24 {
+        classes[code] = words[at + code] as u8;
     }
     classes
 }
@@ -38,10 +32,7 @@ pub fn classes_out(words: &mut [u64], at: usize, classes: [u8; 24])
     requires { at + 24 ≤ length words.old }
     ensures { words.new ≡ sets words.old at classes }
 {
-    let mut code = 0;
-    while code < 24 {
-        let next = at + code;
-        words[next] = classes[code] as u64;
-        code += 1;
+    for code in 0..24 {
+        words[at + code] = classes[code] as u64;
     }
 }

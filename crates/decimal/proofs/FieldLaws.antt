@@ -1,10 +1,10 @@
 -- Laws of fields, for every width and every number that fits it: length, reading back, no two numbers share a field, and an
 -- accepted field is the one that writing makes.
-use Rattle.std.specs.Prelude.{ℕ, zero, suc, ◌+◌, ◌-◌, ◌*◌, ◌/◌, ◌%◌, ◌^◌, ◌≤◌, ◌<◌, List, [], ◌∷◌, ◌++◌, Bool, true, false, cond, ◌&&◌, ◌≡◌, refl, length, leb}
+use Rattle.std.specs.Prelude.{ℕ, zero, suc, ◌+◌, ◌-◌, ◌*◌, ◌/◌, ◌%◌, ◌^◌, ◌≤◌, ◌<◌, List, [], ◌∷◌, ◌++◌, Bool, true, false, cond, ◌&&◌, Some, ◌≡◌, refl, length, leb}
 use Rattle.std.proofs.Common.{pow-suc, zero-add, add-zero, add-suc, suc-add, arith, sym, ap, ◌∙◌, length-append, ne_eqb, le-leb, leb-true}
+use Rattle.std.proofs.lemmas.Option.{cond_some}
 use Rattle.decimal.specs.Field.{column, columns, field, digit, value_from, value, is_field, field_read}
 use Rattle.decimal.specs.Bytes.{same_refl, same_equal}
-use Rattle.decimal.specs.declared.FieldRead.TheVariants.{Number, NoField}
 
 pub length_columns : (w rest : ℕ) → length (columns w rest) ≡ w
 unfolding columns
@@ -59,7 +59,7 @@ value_field (suc w) n h =
 pub field_injective : (w m n : ℕ) → m < 10 ^ w → n < 10 ^ w → field w m ≡ field w n → m ≡ n
 field_injective w m n h k e = sym (value_field w m h) ∙ ap value e ∙ value_field w n k
 
-pub field_read_lem : (w n : ℕ) → n < 10 ^ w → field_read (field w n) ≡ Number n
+pub field_read_lem : (w n : ℕ) → n < 10 ^ w → field_read (field w n) ≡ Some n
 unfolding field_read is_field
 field_read_lem w n h = rw (length_field w n, value_field w n h, same_refl (field w n))
 
@@ -69,15 +69,11 @@ pub is_field_lem : (bs : List ℕ) (n : ℕ) → is_field bs n ≡ true → bs �
 unfolding is_field
 is_field_lem bs n e = same_equal bs (field (length bs) n) e
 
-number_read : (t : Bool) (v n : ℕ) → cond t (Number v) NoField ≡ Number n → (t ≡ true) × (v ≡ n)
-number_read true v n e = (refl, cc)
-number_read false v n e = absurd (let z : ◌≡◌ {A = ℕ} 0 1 = cc in omega arith)
-
 -- an accepted field is the one that writing makes
-pub accepted_is_written : (bs : List ℕ) (n : ℕ) → field_read bs ≡ Number n → bs ≡ field (length bs) n
+pub accepted_is_written : (bs : List ℕ) (n : ℕ) → field_read bs ≡ Some n → bs ≡ field (length bs) n
 unfolding field_read
 accepted_is_written bs n e =
-    let p = number_read (is_field bs (value bs)) (value bs) n e in
+    let p = cond_some (is_field bs (value bs)) (value bs) n e in
     is_field_lem bs (value bs) p.0 ∙ ap (λ (k : ℕ). field (length bs) k) p.1
 
 -- ---- a field's value is below 10 to the number of its columns
@@ -101,8 +97,8 @@ below_from (b ∷ bs) v i h =
 pub value_below : (bs : List ℕ) → value bs < 10 ^ length bs
 value_below bs = rw (zero-add (length bs)) at (below_from bs 0 0 (omega arith))
 
-pub accepted_fits : (bs : List ℕ) (n : ℕ) → field_read bs ≡ Number n → n < 10 ^ length bs
+pub accepted_fits : (bs : List ℕ) (n : ℕ) → field_read bs ≡ Some n → n < 10 ^ length bs
 unfolding field_read
 accepted_fits bs n e =
-    let p = number_read (is_field bs (value bs)) (value bs) n e in
+    let p = cond_some (is_field bs (value bs)) (value bs) n e in
     rw (sym p.1) (value_below bs)

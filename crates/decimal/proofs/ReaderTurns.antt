@@ -1,21 +1,20 @@
 -- The readers' loops: one turn of each, its start and its end.
-use Prim.Native.Nat.{ℕ, zero, suc, ◌+◌, ◌-◌, ◌*◌, ◌/◌, ◌^◌, ◌≤◌, ◌<◌}
+use Prim.Native.Nat.{ℕ, suc, ◌+◌, ◌-◌, ◌*◌, ◌/◌, ◌^◌, ◌≤◌, ◌<◌}
 use Rattle.std.proofs.Math.Numerals.{add-one}
-use Rattle.std.proofs.Common.{sub-one, pow-suc, arith, ap, ◌∙◌, length-append, length-drop, take-append-drop, take-suc}
+use Rattle.std.proofs.Common.{pow-suc, arith, ap, ◌∙◌, length-append, length-drop, take-append-drop}
 use Rattle.std.proofs.Math.Nat.{pow-le-pow_right}
 use mathlib.Core.List.{List, [], ◌∷◌, ◌++◌}
 use Rattle.std.specs.Prelude.{Bool, ◌&&◌, ◌≡◌, get_or, take, drop, eqb}
 use Rattle.std.proofs.Math.Bool.{true, false, cond}
 use Rattle.std.proofs.Math.Path.{refl, sym}
 use Rattle.std.proofs.Math.ListN.{length, drop_of_length-le}
-use Rattle.std.proofs.Math.Seq.{drop-cons, take-length, length-take-le, drop-drop}
+use Rattle.std.proofs.Math.Seq.{drop-cons, length-take-le, drop-drop}
 use Rattle.terms.specs.Rows.{all_equal}
-use Rattle.decimal.specs.Field.{last_digit, column, columns, field, digit, value_from, value, same_bytes, is_field, field_read}
+use Rattle.decimal.specs.Field.{last_digit, column, columns, field, digit, value_from, same_bytes, is_field}
 use Rattle.decimal.proofs.FieldLaws.{length_columns, length_field, digit_small}
 use Rattle.decimal.specs.Bytes.{same_append, same_snoc}
 use Rattle.decimal.specs.Lines.{fields, line}
 use Rattle.decimal.proofs.LinesLaws.{line_from}
-use Rattle.decimal.specs.declared.FieldRead.TheVariants.{Number, NoField}
 
 -- ---- the value
 
@@ -43,38 +42,23 @@ unfolding is_field field all_equal
 none_compared [] n e = refl
 none_compared (x ∷ t) n e = absurd (omega arith)
 
-pub last_compared : (t : List ℕ) (n : ℕ) → 0 < length t
-    → is_field t n ≡ (eqb (get_or t (length t - 1) 0) (last_digit n) && same_bytes (take (length t - 1) t) (columns (length t - 1) (n / 10)))
+pub last_compared : (t l : List ℕ) (b n : ℕ) → t ≡ l ++ (b ∷ []) → is_field t n ≡ (eqb b (last_digit n) && same_bytes l (columns (length l) (n / 10)))
 unfolding is_field field
-last_compared [] n h = absurd (omega arith)
-last_compared (x ∷ t) n h =
-    rw (sub-one (suc (length t)))
-    (ap (λ (l : List ℕ). same_bytes l (columns (length t) (n / 10) ++ (last_digit n ∷ []))) (sym (take-length (x ∷ t)) ∙ take-suc (x ∷ t) (length t) 0 (omega arith))
-    ∙ same_snoc (take (length t) (x ∷ t)) (columns (length t) (n / 10)) (get_or (x ∷ t) (length t) 0) (last_digit n)
-    (length-take-le (length t) (x ∷ t) (omega arith) ∙ sym (length_columns (length t) (n / 10))))
+last_compared t l b n e =
+    rw (e, length-append l (b ∷ []), add-one (length l))
+    (same_snoc l (columns (length l) (n / 10)) b (last_digit n) (sym (length_columns (length l) (n / 10))))
 
-pub column_compared : (t : List ℕ) (k rest : ℕ) → 0 < k → k ≤ length t
-    → same_bytes (take k t) (columns k rest) ≡ (eqb (get_or t (k - 1) 0) (column rest) && same_bytes (take (k - 1) t) (columns (k - 1) (rest / 10)))
+pub column_compared : (t l : List ℕ) (b rest : ℕ) → t ≡ l ++ (b ∷ [])
+    → same_bytes t (columns (length t) rest) ≡ (eqb b (column rest) && same_bytes l (columns (length l) (rest / 10)))
 unfolding columns
-column_compared t zero rest h g = absurd (omega arith)
-column_compared t (suc k) rest h g =
-    rw (sub-one (suc k), take-suc t k 0 g)
-    (same_snoc (take k t) (columns k (rest / 10)) (get_or t k 0) (column rest) (length-take-le k t (omega arith) ∙ sym (length_columns k (rest / 10))))
+column_compared t l b rest e =
+    rw (e, length-append l (b ∷ []), add-one (length l))
+    (same_snoc l (columns (length l) (rest / 10)) b (column rest) (sym (length_columns (length l) (rest / 10))))
 
-pub all_compared : (t : List ℕ) (k rest : ℕ) → k ≤ 0 → true ≡ same_bytes (take k t) (columns k rest)
+pub all_compared : (t : List ℕ) (rest : ℕ) → length t ≡ 0 → true ≡ same_bytes t (columns (length t) rest)
 unfolding columns all_equal
-all_compared t zero rest h = refl
-all_compared t (suc k) rest h = absurd (omega arith)
-
--- ---- the reader's answer
-
-pub accepted : (t : List ℕ) (v : ℕ) → v ≡ value t → is_field t v ≡ true → Number v ≡ field_read t
-unfolding field_read
-accepted t v e s = rw (sym e, s)
-
-pub turned_down : (t : List ℕ) (v : ℕ) → v ≡ value t → is_field t v ≡ false → NoField ≡ field_read t
-unfolding field_read
-turned_down t v e s = rw (sym e, s)
+all_compared [] rest h = refl
+all_compared (x ∷ t) rest h = absurd (omega arith)
 
 -- ---- a line compared field by field
 

@@ -1,11 +1,11 @@
 -- The writers' loops: one turn of each, its start and its end.
 use Rattle.std.specs.Prelude.{ℕ, zero, suc, ◌+◌, ◌-◌, ◌/◌, ◌≤◌, ◌<◌, ◌≡◌, refl, get_or, take, drop, set}
-use Rattle.std.proofs.Common.{add-one, sub-one, add-zero, arith, ◌∙◌, length-drop, length-take-le, drop-drop, drop_at}
+use Rattle.std.proofs.Common.{add-one, sub-one, add-zero, arith, ◌∙◌, length-drop, length-take-le, drop-drop}
 use mathlib.Core.List.{List, [], ◌∷◌, ◌++◌, append_assoc, append-nil}
 use Rattle.std.proofs.Math.Path.{sym, ap}
 use Rattle.std.proofs.Math.ListN.{length, length-append}
 use Rattle.std.proofs.Math.Seq.{drop-length, take-suc, take_all}
-use Rattle.std.proofs.lemmas.List.{set_split}
+use Rattle.std.proofs.lemmas.List.{set_split, drop-set}
 use borrow.Rule.Slice.PartMut.{put_mid}
 use Rattle.decimal.specs.Field.{last_digit, column, columns, field}
 use Rattle.decimal.proofs.FieldLaws.{length_field}
@@ -14,9 +14,6 @@ use Rattle.decimal.proofs.LinesLaws.{fields_append, fields_room}
 use Rattle.decimal.specs.Segments.{put, put_none, put_put}
 
 -- ---- a field, from the right
-
-drop_set_here : (l : List ℕ) (k b : ℕ) → k < length l → drop k (set l k b) ≡ b ∷ drop (suc k) l
-drop_set_here l k b h = rw (set_split l k b h) (drop_at (take k l) (b ∷ drop (suc k) l) k (length-take-le k l (omega arith)))
 
 pub field_none : (l : List ℕ) (n : ℕ) → length l ≡ 0 → l ≡ field (length l) n
 unfolding field
@@ -28,14 +25,14 @@ pub last_written : (l : List ℕ) (n : ℕ) → 0 < length l
 unfolding field
 last_written [] n h = absurd (omega arith)
 last_written (x ∷ l) n h =
-    rw (sub-one (suc (length l)), drop_set_here (x ∷ l) (length l) (last_digit n) (omega arith), drop-length l)
+    rw (sub-one (suc (length l)), drop-set (x ∷ l) (length l) (last_digit n) (omega arith), add-one, drop-length l)
 
 pub column_written : (l : List ℕ) (k rest : ℕ) → 0 < k → k ≤ length l
     → columns (k - 1) (rest / 10) ++ drop (k - 1) (set l (k - 1) (column rest)) ≡ columns k rest ++ drop k l
 unfolding columns
 column_written l zero rest h g = absurd (omega arith)
 column_written l (suc k) rest h g =
-    rw (sub-one (suc k), drop_set_here l k (column rest) (omega arith), append_assoc (columns k (rest / 10)) (column rest ∷ []) (drop (suc k) l))
+    rw (sub-one (suc k), drop-set l k (column rest) (omega arith), add-one k, append_assoc (columns k (rest / 10)) (column rest ∷ []) (drop (suc k) l))
 
 pub columns_none : (l : List ℕ) (k rest : ℕ) → k ≤ 0 → l ≡ columns k rest ++ drop k l
 unfolding columns

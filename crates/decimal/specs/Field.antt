@@ -1,8 +1,6 @@
 -- Document 02, Points 6, 7 and 10: a decimal number in a field of any width, 'right-justified with spaces, no leading zeros'.
-use Rattle.std.specs.Prelude.{ℕ, zero, suc, ◌+◌, ◌-◌, ◌*◌, ◌/◌, ◌%◌, List, [], ◌∷◌, ◌++◌, Bool, cond, ◌&&◌, length, leb, eqb}
+use Rattle.std.specs.Prelude.{ℕ, zero, suc, ◌+◌, ◌-◌, ◌*◌, ◌/◌, ◌%◌, List, [], ◌∷◌, ◌++◌, Bool, cond, ◌&&◌, Option, Some, None, length, leb, eqb}
 use Rattle.terms.specs.Rows.{all_equal}
-use Rattle.decimal.specs.declared.FieldRead.{FieldRead}
-use Rattle.decimal.specs.declared.FieldRead.TheVariants.{Number, NoField}
 
 -- the byte of the digit that a number ends with
 abbrev pub last_digit : ℕ → ℕ
@@ -43,5 +41,5 @@ unfoldable pub is_field : List ℕ → ℕ → Bool
 is_field bs n = same_bytes bs (field (length bs) n)
 
 -- a field is read by value, and accepted where writing that value makes it
-unfoldable pub field_read : List ℕ → FieldRead
-field_read bs = cond (is_field bs (value bs)) (Number (value bs)) NoField
+unfoldable pub field_read : List ℕ → Option ℕ
+field_read bs = cond (is_field bs (value bs)) (Some (value bs)) None

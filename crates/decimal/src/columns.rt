@@ -10,23 +10,21 @@ pub fn last_digit(number: usize) -> u8
 }
 
 // A column left of the last, of what is left of the number.
+#[tactic(auto, unfolding(crate::specs::Field::column))]
 pub fn column_of(rest: usize) -> u8
     ensures { result ≡ column rest }
 {
-    if rest == 0 {
-        return b' ';
-    }
-    last_digit(rest)
+    if rest == 0 { b' ' } else { last_digit(rest) }
 }
 
 // What a byte counts for.
+#[tactic(auto, unfolding(crate::specs::Field::digit))]
 pub fn digit_of(b: u8) -> usize
     ensures { result ≡ digit b }
 {
-    if b'0' <= b {
-        if b <= b'9' {
-            return (b - b'0') as usize;
-        }
+    if b.is_ascii_digit() {
+        (b - b'0') as usize
+    } else {
+        0
     }
-    0
 }

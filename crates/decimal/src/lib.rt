@@ -9,11 +9,4 @@ mod write;
 pub use read::{field_value, is_field, is_line, read_field};
 pub use write::{put_field, put_line, write_field};
 
-// What a field holds.
-#[derive(Clone, Copy)]
-pub enum FieldRead {
-    Number(usize),
-    NoField,
-}
-
 pub const LINE_FEED: u8 = 10;

@@ -15,13 +15,11 @@ pub fn write_field(out: &mut [u8], number: usize)
     if width == 0 {
         return;
     }
-    let mut k = width - 1;
-    out[k] = last_digit(number);
+    out[width - 1] = last_digit(number);
     let mut rest = number / 10;
-    while 0 < k {
-        k -= 1;
+    for k in (0..width - 1).rev() {
         out[k] = column_of(rest);
-        rest = rest / 10;
+        rest /= 10;
     }
 }
 
@@ -40,12 +38,9 @@ pub fn put_line(text: &mut [u8], at: usize, width: usize, numbers: &[usize])
     ensures { text.new ≡ put at (line width numbers.now) text.old }
 {
     let mut end = at;
-    let mut k = 0;
-    while k < numbers.len() {
-        let number = numbers[k];
-        put_field(text, end, width, number);
+    for number in numbers {
+        put_field(text, end, width, *number);
         end += width;
-        k += 1;
     }
     text[end] = LINE_FEED;
 }

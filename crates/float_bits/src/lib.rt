@@ -29,7 +29,7 @@ pub fn float_of_word(w: FloatBits) -> f32
     ensures { result ≡ float_of w }
 {
     if is_nan_word(w) {
-        0.0f32 / 0.0f32
+        f32::NAN
     } else {
         f32::from_bits(w)
     }
@@ -38,7 +38,7 @@ pub fn float_of_word(w: FloatBits) -> f32
 pub fn word_of_float(x: f32) -> FloatBits
     ensures { result ≡ word_of x }
 {
-    if x != x { NAN } else { f32::to_bits(x) }
+    if x.is_nan() { NAN } else { x.to_bits() }
 }
 
 // The same word at every place of two rows. With no early exit: a row has at most 64 words, and the vector loop over all of them is faster
@@ -48,10 +48,8 @@ pub fn rows_equal(a: &[FloatBits], b: &[FloatBits]) -> bool
     ensures { result ≡ rows_equal a.now b.now }
 {
     let mut equal = true;
-    let mut i = 0;
-    while i < a.len() {
-        equal = equal & (a[i] == b[i]);
-        i += 1;
+    for i in 0..a.len() {
+        equal &= a[i] == b[i];
     }
     equal
 }
@@ -62,9 +60,7 @@ pub fn add_scaled(sums: &mut [f32], row: &[FloatBits], weight: usize)
     ensures { sums.new ≡ add_scaled weight sums.old row.now }
 {
     let factor = weight as f32;
-    let mut i = 0;
-    while i < sums.len() {
-        sums[i] = sums[i] + float_of_word(row[i]) * factor;
-        i += 1;
+    for i in 0..sums.len() {
+        sums[i] += float_of_word(row[i]) * factor;
     }
 }

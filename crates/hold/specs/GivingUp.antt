@@ -1,5 +1,5 @@
 -- The dec of the oldest point, on the tables alone: it does the same whatever the elements are.
-use Rattle.std.specs.Prelude.{ℕ, ◌≤◌, true, ◌≡◌, get_or}
+use Rattle.std.specs.Prelude.{ℕ, ◌≤◌, true, ◌≡◌}
 use Rattle.std.proofs.Math.Path.{refl}
 use Rattle.std.proofs.Common.{ap, ◌∙◌}
 use Rattle.interval_store_manager.specs.Calls.{go}
@@ -10,10 +10,9 @@ use Rattle.store_definitions.specs.Decisions.{live, touch_decided}
 use Rattle.store_definitions.specs.WellFormed.{well_formed}
 use Rattle.store_check.specs.CheckLaws.{elementless, well_formed_lengths}
 use Rattle.store_counts.specs.Elements.{refilled, dec_refilled}
-use Rattle.hold_definitions.specs.declared.Hold.{Hold}
-use Rattle.hold_definitions.specs.Memory.{HoldMemory, point_hold}
-use Rattle.hold.specs.declared.keep.Given.{Given}
-use Rattle.hold.specs.Keeping.{oldest_label_in, PointReady}
+use Rattle.store_definitions.specs.declared.Kept.{Kept}
+use Rattle.hold_definitions.specs.Memory.{PointHold, store_of}
+use Rattle.hold.specs.Keeping.{oldest_in, oldest_label_in, PointReady}
 
 module _ {E : Type 0} (s : Store) (m : Memory E) where
   abbrev bare : PointStore (Unit {0})
@@ -29,9 +28,9 @@ module _ {E : Type 0} (s : Store) (m : Memory E) where
       ∙ dec_refilled m.store m.last_known_shingle bare i l
       ∙ ap (λ (x : ℕ). decremented (point_store s m) i x) same
 
-pub dec_ready : {E : Type 0} (g : Given) (h : Hold) (s : Store) (m : HoldMemory E) → PointReady g (point_hold h m) (point_store s m.store) → h.width ≤ h.held → (l : ℕ) → l ≡ oldest_label_in (point_hold h m) (point_store s m.store)
-    → (well_formed (point_store s (elementless m.store)) ≡ true) × (dec_test (point_store s (elementless m.store)) (get_or m.held_indices 0 0) l ≡ go)
-dec_ready g h s m r full l same = (
-  well_formed_lengths s m.store ∙ r.well,
-  test_same s m.store (get_or m.held_indices 0 0) l ∙ ap (λ (x : ℕ). dec_test (point_store s m.store) (get_or m.held_indices 0 0) x) same ∙ r.decided full,
+pub dec_ready : {E : Type 0} (k : Kept) (h : PointHold E) → PointReady k h → h.header.width ≤ h.header.held → (l : ℕ) → l ≡ oldest_label_in h
+    → (well_formed (point_store h.header.store (elementless h.memory.store)) ≡ true) × (dec_test (point_store h.header.store (elementless h.memory.store)) (oldest_in h) l ≡ go)
+dec_ready k h r full l same = (
+  well_formed_lengths h.header.store h.memory.store ∙ r.well,
+  test_same h.header.store h.memory.store (oldest_in h) l ∙ ap (λ (x : ℕ). dec_test (store_of h) (oldest_in h) x) same ∙ r.decided full,
 )

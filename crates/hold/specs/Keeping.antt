@@ -1,5 +1,8 @@
 -- What a hold does with its store's answer, and what that may rely on.
-use Rattle.std.specs.Prelude.{ℕ, zero, suc, ◌+◌, ◌-◌, ◌≤◌, ◌<◌, Bool, true, false, cond, List, [], ◌∷◌, ◌++◌, ◌≡◌, get_or, take, drop}
+use Rattle.std.specs.Prelude.{ℕ, zero, suc, ◌+◌, ◌-◌, ◌≤◌, ◌<◌, Bool, true, false, cond, List, [], ◌∷◌, ◌++◌, ◌≡◌, get_or, take, drop, Option, Some, None, Result, Ok, Err}
+use Rattle.terms.specs.Refusals.{number}
+use Rattle.terms.specs.declared.Refusal.{Refusal}
+use Rattle.store_definitions.specs.declared.Kept.{Kept}
 use native.Mathlib.Omega.{arith}
 use Rattle.std.proofs.Math.Path.{refl, ap, ap₂}
 use Rattle.std.proofs.Common.{sym, subst, ◌∙◌, length-take-le}
@@ -10,7 +13,7 @@ use Rattle.labels.specs.Decisions.{none}
 use Rattle.labels.specs.Labels.{label_lowered}
 use Rattle.labels.specs.Counted.{lowered}
 use Rattle.store_definitions.specs.Memory.{PointStore}
-use Rattle.store_definitions.specs.Answers.{Answer, kept, waiting, done, is, says, refused, refused_after, Outcome, outcome}
+use Rattle.store_definitions.specs.Answers.{Answer, refused, added_means, Outcome, outcome}
 use Rattle.store_definitions.specs.Adding.{add_spec}
 use Rattle.store_definitions.specs.Counting.{dec_test, place_after_dec, decremented}
 use Rattle.store_definitions.specs.Parts.{point_table, label_half, with_points, with_labels}
@@ -21,21 +24,11 @@ use Rattle.store_laws.specs.AddingLaws.{add_keeps}
 use Rattle.hold_definitions.specs.Memory.{PointHold, point_hold, store_of, indices_of, labels_of}
 use Rattle.hold_definitions.specs.Answers.{hold_outcome}
 use Rattle.hold_definitions.specs.WellFormed.{hold_well_formed}
-use Rattle.hold_definitions.specs.Adding.{written_to, with_store, oldest_label, gave_up, holding, held_after, hold_added}
+use Rattle.hold_definitions.specs.Adding.{written_to, with_store, oldest_label, gave_up, holding, hold_added}
 use Rattle.hold_definitions.specs.CountsAfter.{Gained, Leaves, add_leaves, counted_inside, count_now}
 use Rattle.hold_definitions.proofs.Sound.{HoldSound, hold_sound}
 use Rattle.hold_definitions.proofs.NamesLaws.{gained_names, oldest_decided}
 use Rattle.hold_definitions.proofs.AddingLaws.{length_more}
-use Rattle.hold.specs.declared.keep.Given.{Given}
-
-abbrev pub given_in : Answer → Given
-given_in (kept i l laid left) = record { kept = true; index = i; label = l }
-given_in waiting = record { kept = false; index = 0; label = 0 }
-given_in done = record { kept = false; index = 0; label = 0 }
-given_in (is n) = record { kept = false; index = 0; label = 0 }
-given_in (says b) = record { kept = false; index = 0; label = 0 }
-given_in (refused n) = record { kept = false; index = 0; label = 0 }
-given_in (refused_after n k) = record { kept = false; index = 0; label = 0 }
 
 -- the first of a list that has one
 first_of : (held : ℕ) (xs : List ℕ) (i : ℕ) → 0 < held → held ≤ length xs → get_or (take held xs ++ i ∷ []) 0 0 ≡ get_or xs 0 0
@@ -44,40 +37,28 @@ first_of zero (x ∷ xs) i h l = absurd (omega arith)
 first_of (suc held) (x ∷ xs) i h l = refl
 
 module _ {E : Type 0} where
-  unfoldable pub kept_if : Given → PointHold E → PointStore E → PointHold E
-  kept_if g h q = cond g.kept (holding h (indices_of h ++ g.index ∷ []) (labels_of h ++ g.label ∷ []) q) (with_store q h)
-
-  pub kept_if_lem : (h : PointHold E) (a : Answer) (q : PointStore E) → kept_if (given_in a) h q ≡ held_after h a q
-  unfolding kept_if
-  kept_if_lem h (kept i l laid left) q = refl
-  kept_if_lem h waiting q = refl
-  kept_if_lem h done q = refl
-  kept_if_lem h (is n) q = refl
-  kept_if_lem h (says b) q = refl
-  kept_if_lem h (refused n) q = refl
-  kept_if_lem h (refused_after n k) q = refl
+  -- the hold once its store has kept a point: the point joins the list, and the oldest may go
+  unfoldable pub point_kept : Kept → PointHold E → PointHold E
+  point_kept k h = holding h (indices_of h ++ k.index.0 ∷ []) (labels_of h ++ k.label.0 ∷ []) (store_of h)
 
   -- the oldest point and its label, as the tables have them
   abbrev pub oldest_in : PointHold E → ℕ
   oldest_in h = get_or h.memory.held_indices 0 0
 
-  abbrev pub oldest_label_in : PointHold E → PointStore E → ℕ
-  oldest_label_in h q = cond q.header.store_labels (get_or h.memory.held_labels 0 0) none
+  abbrev pub oldest_label_in : PointHold E → ℕ
+  oldest_label_in h = cond h.header.store.store_labels (get_or h.memory.held_labels 0 0) none
 
-  -- once a point is kept
-  pub record PointReady (g : Given) (h : PointHold E) (q : PointStore E) : Type 0 where
+  -- what a hold relies on whose store has kept a point
+  pub record PointReady (k : Kept) (h : PointHold E) : Type 0 where
     pub room : h.header.held < length h.memory.held_indices
-    pub label_room : q.header.store_labels ≡ true → h.header.held < length h.memory.held_labels
-    pub index_small : g.index < 65536
-    pub label_small : q.header.store_labels ≡ true → g.label < 65536
+    pub label_room : h.header.store.store_labels ≡ true → h.header.held < length h.memory.held_labels
+    pub index_small : k.index.0 < 65536
+    pub label_small : h.header.store.store_labels ≡ true → k.label.0 < 65536
     pub held_small : h.header.held < 1024
     -- with as many as the hold is wide, the oldest can go
     pub some : h.header.width ≤ h.header.held → 0 < h.header.held
-    pub well : well_formed q ≡ true
-    pub decided : h.header.width ≤ h.header.held → dec_test q (oldest_in h) (oldest_label_in h q) ≡ go
-
-  abbrev pub KeepReady : Given → PointHold E → PointStore E → Type 0
-  KeepReady g h q = g.kept ≡ true → PointReady g h q
+    pub well : well_formed (store_of h) ≡ true
+    pub decided : h.header.width ≤ h.header.held → dec_test (store_of h) (oldest_in h) (oldest_label_in h) ≡ go
 
   -- ---- the ways out
 
@@ -87,50 +68,47 @@ module _ {E : Type 0} where
       let r = with_points (lowered (point_table q) i) (place_after_dec q i) q in
       by_cases (λ x. x.header.store_labels ≡ q.header.store_labels) q.header.store_labels (with_labels (label_lowered (label_half q) l) r) r (λ on. refl) (λ off. refl)
 
-  module _ (g : Given) (h : PointHold E) (q : PointStore E) where
-    pub not_kept : g.kept ≡ false → with_store q h ≡ kept_if g h q
-    unfolding kept_if
-    not_kept e = rw e
+  module _ (k : Kept) (h : PointHold E) (r : PointReady k h) where
+    abbrev xs : List ℕ
+    xs = indices_of h ++ k.index.0 ∷ []
 
-    module _ (e : g.kept ≡ true) (r : PointReady g h q) where
-      abbrev xs : List ℕ
-      xs = indices_of h ++ g.index ∷ []
+    abbrev ls : List ℕ
+    ls = labels_of h ++ k.label.0 ∷ []
 
-      abbrev ls : List ℕ
-      ls = labels_of h ++ g.label ∷ []
+    longer : length xs ≡ h.header.held + 1
+    longer = length_more (indices_of h) k.index.0 ∙ ap (λ (n : ℕ). n + 1) (length-take-le h.header.held h.memory.held_indices (omega (arith, r.room)))
 
-      longer : length xs ≡ h.header.held + 1
-      longer = length_more (indices_of h) g.index ∙ ap (λ (k : ℕ). k + 1) (length-take-le h.header.held h.memory.held_indices (omega (arith, r.room)))
+    -- there was room for one more
+    pub kept_more : h.header.held < h.header.width → (indices labels : List ℕ) → indices ≡ written_to h.memory.held_indices xs → labels ≡ cond h.header.store.store_labels (written_to h.memory.held_labels ls) h.memory.held_labels
+        → point_hold (record { store = h.header.store; width = h.header.width; held = h.header.held + 1 }) (record { store = h.memory.store; held_indices = indices; held_labels = labels }) ≡ point_kept k h
+    unfolding point_kept holding
+    kept_more few indices labels a b = rw (le-ltb h.header.width (length xs) (omega (arith, longer)), a, b, ← longer)
 
-      -- there was room for one more
-      pub kept_more : h.header.held < h.header.width → (indices labels : List ℕ) → indices ≡ written_to h.memory.held_indices xs → labels ≡ cond q.header.store_labels (written_to h.memory.held_labels ls) h.memory.held_labels
-          → point_hold (record { store = q.header; width = h.header.width; held = h.header.held + 1 }) (record { store = q.memory; held_indices = indices; held_labels = labels }) ≡ kept_if g h q
-      unfolding kept_if holding
-      kept_more few indices labels a b = rw (e, le-ltb h.header.width (length xs) (omega (arith, longer)), a, b, ← longer)
+    -- the oldest is gone
+    module _ (full : h.header.width ≤ h.header.held) where
+      same_oldest : oldest_in h ≡ get_or xs 0 0
+      same_oldest = sym (first_of h.header.held h.memory.held_indices k.index.0 (r.some full) (omega (arith, r.room)))
 
-      -- the oldest is gone
-      module _ (full : h.header.width ≤ h.header.held) where
-        same_oldest : oldest_in h ≡ get_or xs 0 0
-        same_oldest = sym (first_of h.header.held h.memory.held_indices g.index (r.some full) (omega (arith, r.room)))
+      same_label : (b : Bool) → h.header.store.store_labels ≡ b → cond b (get_or h.memory.held_labels 0 0) none ≡ cond b (get_or ls 0 0) none
+      same_label true on = sym (first_of h.header.held h.memory.held_labels k.label.0 (r.some full) (omega (arith, r.label_room on)))
+      same_label false off = refl
 
-        same_label : (b : Bool) → q.header.store_labels ≡ b → cond b (get_or h.memory.held_labels 0 0) none ≡ cond b (get_or ls 0 0) none
-        same_label true on = sym (first_of h.header.held h.memory.held_labels g.label (r.some full) (omega (arith, r.label_room on)))
-        same_label false off = refl
-
-        pub kept_full : (p : PointStore E) → p ≡ decremented q (oldest_in h) (oldest_label_in h q) → (indices labels : List ℕ) → indices ≡ written_to h.memory.held_indices (drop 1 xs) → labels ≡ cond q.header.store_labels (written_to h.memory.held_labels (drop 1 ls)) h.memory.held_labels
-            → point_hold (record { store = p.header; width = h.header.width; held = h.header.held }) (record { store = p.memory; held_indices = indices; held_labels = labels }) ≡ kept_if g h q
-        unfolding kept_if holding gave_up
-        kept_full p d indices labels a b =
-            let fewer : length (drop 1 xs) ≡ h.header.held = length-drop 1 xs ∙ ap (λ (k : ℕ). k - 1) longer ∙ (let z : h.header.held + 1 - 1 ≡ h.header.held = omega arith in z) in
-            let gone : p ≡ decremented q (get_or xs 0 0) (oldest_label q ls) = d ∙ ap₂ (λ (i l : ℕ). decremented q i l) same_oldest (same_label q.header.store_labels refl) in
-            ap (λ (k : ℕ). point_hold (record { store = p.header; width = h.header.width; held = k }) (record { store = p.memory; held_indices = indices; held_labels = labels })) (sym fewer)
-            ∙ (rw (e, lt-ltb h.header.width (length xs) (omega (arith, longer)), a, b, gone, flag_after q (get_or xs 0 0) (oldest_label q ls)))
+      pub kept_full : (p : PointStore E) → p ≡ decremented (store_of h) (oldest_in h) (oldest_label_in h) → (indices labels : List ℕ) → indices ≡ written_to h.memory.held_indices (drop 1 xs) → labels ≡ cond h.header.store.store_labels (written_to h.memory.held_labels (drop 1 ls)) h.memory.held_labels
+          → point_hold (record { store = p.header; width = h.header.width; held = h.header.held }) (record { store = p.memory; held_indices = indices; held_labels = labels }) ≡ point_kept k h
+      unfolding point_kept holding gave_up
+      kept_full p d indices labels a b =
+          let fewer : length (drop 1 xs) ≡ h.header.held = length-drop 1 xs ∙ ap (λ (n : ℕ). n - 1) longer ∙ (let z : h.header.held + 1 - 1 ≡ h.header.held = omega arith in z) in
+          let gone : p ≡ decremented (store_of h) (get_or xs 0 0) (oldest_label (store_of h) ls) = d ∙ ap₂ (λ (i l : ℕ). decremented (store_of h) i l) same_oldest (same_label h.header.store.store_labels refl) in
+          ap (λ (n : ℕ). point_hold (record { store = p.header; width = h.header.width; held = n }) (record { store = p.memory; held_indices = indices; held_labels = labels })) (sym fewer)
+          ∙ (rw (lt-ltb h.header.width (length xs) (omega (arith, longer)), a, b, gone, flag_after (store_of h) (get_or xs 0 0) (oldest_label (store_of h) ls)))
 
   -- ---- what the store's add leaves is ready
 
   module _ (h : PointHold E) (s : HoldSound h) (q : PointStore E) (f : well_formed q ≡ true) where
-    point_ready : (i l : ℕ) → Gained (store_of h) q i l → PointReady (record { kept = true; index = i; label = l }) h q
-    point_ready i l g =
+    point_ready : (k : Kept) → Gained (store_of h) q k.index.0 k.label.0 → PointReady k (with_store q h)
+    point_ready k g =
+        let i = k.index.0 in
+        let l = k.label.0 in
         let capacity = (sound (store_of h) s.well).bounds.capacity_most in
         let w = sound q f in
         let n = gained_names (store_of h) q i l (indices_of h) (labels_of h) s.names g in
@@ -150,70 +128,45 @@ module _ {E : Type 0} where
           decided = λ full.
               let positive : 0 < h.header.held = omega (arith, full, s.width_least) in
               let a : get_or xs 0 0 ≡ oldest_in h = first_of h.header.held h.memory.held_indices i positive (omega (arith, s.held_most, s.width_most, s.indices_lent)) in
-              let label : (b : Bool) → q.header.store_labels ≡ b → cond b (get_or ls 0 0) none ≡ cond b (get_or h.memory.held_labels 0 0) none = λ b. by_flag b positive in
-              subst (λ (k : ℕ). dec_test q k (oldest_label_in h q) ≡ go) a
-              (subst (λ (k : ℕ). dec_test q (get_or xs 0 0) k ≡ go) (label q.header.store_labels refl)
+              let label : (b : Bool) → q.header.store_labels ≡ b → cond b (get_or ls 0 0) none ≡ cond b (get_or h.memory.held_labels 0 0) none = λ b. by_flag l g.shape.flag_same b positive in
+              subst (λ (n : ℕ). dec_test q n (oldest_label_in (with_store q h)) ≡ go) a
+              (subst (λ (n : ℕ). dec_test q (get_or xs 0 0) n ≡ go) (label q.header.store_labels refl)
               (oldest_decided q w xs ls n (omega (arith, long)) (λ on. omega (arith, length_more (labels_of h) l))));
         }
       where
-        by_flag : (b : Bool) → 0 < h.header.held → q.header.store_labels ≡ b → cond b (get_or (labels_of h ++ l ∷ []) 0 0) none ≡ cond b (get_or h.memory.held_labels 0 0) none
-        by_flag true positive on = first_of h.header.held h.memory.held_labels l positive (omega (arith, s.held_most, s.width_most, s.labels_lent_lem (sym g.shape.flag_same ∙ on)))
-        by_flag false positive off = refl
+        by_flag : (l : ℕ) → q.header.store_labels ≡ h.header.store.store_labels → (b : Bool) → 0 < h.header.held → q.header.store_labels ≡ b → cond b (get_or (labels_of h ++ l ∷ []) 0 0) none ≡ cond b (get_or h.memory.held_labels 0 0) none
+        by_flag l same true positive on = first_of h.header.held h.memory.held_labels l positive (omega (arith, s.held_most, s.width_most, s.labels_lent_lem (sym same ∙ on)))
+        by_flag l same false positive off = refl
 
-    never : {A : Type 0} → false ≡ true → A
-    never e = absurd (let z : ◌≡◌ {A = ℕ} 0 1 = cc in omega arith)
-
-    keep_ready : (a : Answer) → Leaves (store_of h) a q → KeepReady (given_in a) h q
-    keep_ready (kept i l laid left) g e = point_ready i l g
-    keep_ready waiting c e = never e
-    keep_ready done c e = never e
-    keep_ready (is n) c e = never e
-    keep_ready (says b) c e = never e
-    keep_ready (refused n) c e = never e
-    keep_ready (refused_after n k) c e = never e
-
-  module _ (eq : E → E → Bool) (zero_element : E) (h : PointHold E) (e : hold_well_formed h ≡ true) (point : List E) (code : ℕ) (a : Answer) (q : PointStore E) (d : outcome a q ≡ add_spec eq zero_element (store_of h) point code) (g : Given) (given : g ≡ given_in a) where
-    answer_is : (add_spec eq zero_element (store_of h) point code).answer ≡ a
+  module _ (eq : E → E → Bool) (zero_element : E) (h : PointHold E) (point : List E) (code : ℕ) (answer : Result (Option Kept) Refusal) (q : PointStore E) (d : outcome (added_means answer) q ≡ add_spec eq zero_element (store_of h) point code) where
+    answer_is : (add_spec eq zero_element (store_of h) point code).answer ≡ added_means answer
     answer_is = ap (λ (o : Outcome E). o.answer) (sym d)
 
     after_is : (add_spec eq zero_element (store_of h) point code).after ≡ q
     after_is = ap (λ (o : Outcome E). o.after) (sym d)
 
-    -- the lists are those of the hold before; the store is the one after the add
-    abbrev between : PointHold E
-    between = point_hold h.header (record { store = q.memory; held_indices = h.memory.held_indices; held_labels = h.memory.held_labels })
-
-    as_before : PointReady g h q → PointReady g between q
-    as_before r =
-        record {
-          room = r.room;
-          label_room = r.label_room;
-          index_small = r.index_small;
-          label_small = r.label_small;
-          held_small = r.held_small;
-          some = r.some;
-          well = r.well;
-          decided = r.decided;
-        }
-
-    pub added_ready : KeepReady g between q
-    added_ready k =
+    pub added_ready : hold_well_formed h ≡ true → (k : Kept) → answer ≡ Ok (Some k) → PointReady k (with_store q h)
+    added_ready e k f =
         let s = hold_sound h e in
-        as_before
-        (subst (λ (x : Given). KeepReady x h q) (sym given)
-        (keep_ready h s q
+        point_ready h s q
         (subst (λ (x : PointStore E). well_formed x ≡ true) after_is (add_keeps eq zero_element (store_of h) point code s.well))
-        a
+        k
+        (subst (λ (x : Result (Option Kept) Refusal). Leaves (store_of h) (added_means x) q) f
         (subst (λ (x : Answer). Leaves (store_of h) x q) answer_is
         (subst (λ (x : PointStore E). Leaves (store_of h) (add_spec eq zero_element (store_of h) point code).answer x) after_is
         (add_leaves eq zero_element (store_of h) (sound (store_of h) s.well) point code))))
-        k)
 
-    same_between : kept_if g between q ≡ kept_if g h q
-    unfolding kept_if holding
-    same_between = refl
+    -- ---- the hold after each answer
 
-    pub added_held : (r : PointHold E) → r ≡ kept_if g between q → hold_outcome a r ≡ hold_added h (add_spec eq zero_element (store_of h) point code)
-    added_held r b =
-        ap (λ (x : PointHold E). hold_outcome a x) (b ∙ same_between ∙ ap (λ (x : Given). kept_if x h q) given ∙ kept_if_lem h a q)
-        ∙ ap (λ (o : Outcome E). hold_added h o) d
+    hold_after : (r : Result (Option Kept) Refusal) → answer ≡ r → hold_added h (outcome (added_means r) q) ≡ hold_added h (add_spec eq zero_element (store_of h) point code)
+    hold_after r f = ap (λ (x : Result (Option Kept) Refusal). hold_added h (outcome (added_means x) q)) (sym f) ∙ ap (λ (o : Outcome E). hold_added h o) d
+
+    pub added_kept : (k : Kept) → answer ≡ Ok (Some k) → (r : PointHold E) → r ≡ point_kept k (with_store q h) → hold_outcome (added_means (Ok (Some k))) r ≡ hold_added h (add_spec eq zero_element (store_of h) point code)
+    unfolding point_kept holding
+    added_kept k f r b = ap (λ (x : PointHold E). hold_outcome (added_means (Ok (Some k))) x) b ∙ hold_after (Ok (Some k)) f
+
+    pub added_waits : answer ≡ Ok None → hold_outcome (added_means (Ok None)) (with_store q h) ≡ hold_added h (add_spec eq zero_element (store_of h) point code)
+    added_waits f = hold_after (Ok None) f
+
+    pub added_refused : (why : Refusal) → answer ≡ Err why → hold_outcome (refused (number why)) (with_store q h) ≡ hold_added h (add_spec eq zero_element (store_of h) point code)
+    added_refused why f = hold_after (Err why) f

@@ -1,8 +1,9 @@
 -- A table with one entry more in use, and with its entries moved down by one.
-use Rattle.std.specs.Prelude.{ℕ, zero, suc, ◌+◌, ◌-◌, ◌≤◌, ◌<◌, List, [], ◌∷◌, ◌++◌, ◌≡◌, refl, length, get_or, take, drop, set}
-use Rattle.std.proofs.Common.{arith, add-one, sym, ap, ◌∙◌, length-append, length-drop, length-take-le, take-suc, drop-cons, get_or-append-add, get_or-drop}
+use Rattle.std.specs.Prelude.{ℕ, zero, suc, ◌+◌, ◌-◌, ◌≤◌, ◌<◌, List, [], ◌∷◌, ◌++◌, ◌≡◌, length, get_or, take, drop, set}
+use Rattle.std.proofs.Common.{arith, add-one, sym, ap, ◌∙◌, length-append, length-take-le, drop-cons}
 use Rattle.std.proofs.Math.Seq.{append_snoc}
 use Rattle.std.proofs.lemmas.List.{set_split, set_at}
+use Rattle.std.proofs.Math.Seq.{paste}
 use Rattle.hold_definitions.specs.Adding.{written_to}
 
 -- one entry more
@@ -13,33 +14,9 @@ pushed list held e h =
     ∙ sym (append_snoc (take held list) e (drop (suc held) list))
     ∙ ap (λ (n : ℕ). take held list ++ e ∷ [] ++ drop n list) (sym long)
 
--- ---- the first k entries moved down
-
-pub slid_none : (list : List ℕ) → list ≡ take 0 (drop 1 list) ++ drop 0 list
-slid_none list = refl
-
-module _ (list now : List ℕ) (k : ℕ) (h : k + 1 < length list) (e : now ≡ take k (drop 1 list) ++ drop k list) where
-  front : length (take k (drop 1 list)) ≡ k
-  front = length-take-le k (drop 1 list) (omega (arith, length-drop 1 list))
-
-  -- the entry that is moved
-  moved : get_or now (k + 1) 0 ≡ get_or (drop 1 list) k 0
-  moved =
-      ap (λ (xs : List ℕ). get_or xs (k + 1) 0) e
-      ∙ ap (λ (n : ℕ). get_or (take k (drop 1 list) ++ drop k list) (n + 1) 0) (sym front)
-      ∙ get_or-append-add (take k (drop 1 list)) (drop k list) 1 0
-      ∙ get_or-drop k list 1 0
-      ∙ ap (λ (n : ℕ). get_or list n 0) (let z : k + 1 ≡ 1 + k = omega arith in z)
-      ∙ sym (get_or-drop 1 list k 0)
-
-  pub slid_more : set now k (get_or now (k + 1) 0) ≡ take (k + 1) (drop 1 list) ++ drop (k + 1) list
-  slid_more =
-      ap (λ (x : ℕ). set now k x) moved
-      ∙ ap (λ (xs : List ℕ). set xs k (get_or (drop 1 list) k 0)) (e ∙ ap (λ (ys : List ℕ). take k (drop 1 list) ++ ys) (drop-cons list k 0 (omega arith)))
-      ∙ set_at (take k (drop 1 list)) (get_or list k 0) (drop (suc k) list) (get_or (drop 1 list) k 0) k front
-      ∙ sym (append_snoc (take k (drop 1 list)) (get_or (drop 1 list) k 0) (drop (suc k) list))
-      ∙ ap (λ (xs : List ℕ). xs ++ drop (suc k) list) (sym (take-suc (drop 1 list) k 0 (omega (arith, length-drop 1 list))))
-      ∙ ap (λ (n : ℕ). take n (drop 1 list) ++ drop n list) (sym (add-one k))
+-- the first n entries moved down
+pub slid_down : (list : List ℕ) (n : ℕ) → paste list 0 (drop 1 list) n ≡ take n (drop 1 list) ++ drop n list
+slid_down list n = let none : 0 + n ≡ n = omega arith in ap (λ (k : ℕ). take n (drop 1 list) ++ drop k list) none
 
 -- all of them moved, and a new entry at the end
 pub slid_done : (list now : List ℕ) (held last e : ℕ) → 0 < held → held ≤ length list → last ≡ held - 1 → now ≡ take last (drop 1 list) ++ drop last list → set now last e ≡ written_to list (drop 1 (take held list ++ e ∷ []))

@@ -1,5 +1,7 @@
 // A sliding hold over a store of its own: opening one, and an add that keeps the newest points and nothing older. Its readings
 // stand in `hold_check`.
+// Kept: the lent slices are parameters of their own, since the C interface lends as `&mut` only what a call writes, and a struct of
+// `&mut` slices comes back from a call under names of the checker's own.
 #![tactic(auto)]
 
 ghost use Rattle.std.specs.Prelude.{true, ◌≡◌};
@@ -19,16 +21,16 @@ mod keep;
 mod list;
 
 use hold_check::check_hold;
-use hold_definitions::{Hold, HoldAddResult};
-use keep::{given_by, keep_point};
-use store_add::{add_unchecked, with_changes};
+use hold_definitions::Hold;
+use keep::keep_point;
+use store_add::add_unchecked;
 use store_check::Figures;
-use store_definitions::Added;
+use store_definitions::{Kept, Tables};
 use terms::{FloatBits, Refusal};
 
 // Of a hold that is well-formed.
 fn add_checked(
-    h: Hold,
+    h: &mut Hold,
     store: &mut [FloatBits],
     last_known_shingle: &mut [FloatBits],
     reference_count: &mut [u16],
@@ -49,13 +51,12 @@ fn add_checked(
     point: &[FloatBits],
     label: usize,
     figures: Figures,
-) -> HoldAddResult
-    requires { (hold_well_formed (point_hold h (hold_held store.old last_known_shingle.old reference_count.old location.old index_starts.old index_ends.old labels.old label_attributes.old label_count.old label_starts.old label_ends.old attributes.old attribute_count.old attribute_starts.old attribute_ends.old held_indices.old held_labels.old)) ≡ true) × FiguresOf figures (store_of (point_hold h (hold_held store.old last_known_shingle.old reference_count.old location.old index_starts.old index_ends.old labels.old label_attributes.old label_count.old label_starts.old label_ends.old attributes.old attribute_count.old attribute_starts.old attribute_ends.old held_indices.old held_labels.old))) }
-    ensures { hold_outcome (added_means result.answer) (point_hold result.hold (hold_held store.new last_known_shingle.new reference_count.new location.new index_starts.new index_ends.new labels.new label_attributes.new label_count.new label_starts.new label_ends.new attributes.new attribute_count.new attribute_starts.new attribute_ends.new held_indices.new held_labels.new)) ≡ hold_added (point_hold h (hold_held store.old last_known_shingle.old reference_count.old location.old index_starts.old index_ends.old labels.old label_attributes.old label_count.old label_starts.old label_ends.old attributes.old attribute_count.old attribute_starts.old attribute_ends.old held_indices.old held_labels.old)) (add_spec words_equal 0 (point_store h.store (held store.old last_known_shingle.old reference_count.old location.old index_starts.old index_ends.old labels.old label_attributes.old label_count.old label_starts.old label_ends.old attributes.old attribute_count.old attribute_starts.old attribute_ends.old)) point.now label) }
+) -> Result<Option<Kept>, Refusal>
+    requires { (hold_well_formed (point_hold h.old (hold_held store.old last_known_shingle.old reference_count.old location.old index_starts.old index_ends.old labels.old label_attributes.old label_count.old label_starts.old label_ends.old attributes.old attribute_count.old attribute_starts.old attribute_ends.old held_indices.old held_labels.old)) ≡ true) × FiguresOf figures (store_of (point_hold h.old (hold_held store.old last_known_shingle.old reference_count.old location.old index_starts.old index_ends.old labels.old label_attributes.old label_count.old label_starts.old label_ends.old attributes.old attribute_count.old attribute_starts.old attribute_ends.old held_indices.old held_labels.old))) }
+    ensures { hold_outcome (added_means result) (point_hold h.new (hold_held store.new last_known_shingle.new reference_count.new location.new index_starts.new index_ends.new labels.new label_attributes.new label_count.new label_starts.new label_ends.new attributes.new attribute_count.new attribute_starts.new attribute_ends.new held_indices.new held_labels.new)) ≡ hold_added (point_hold h.old (hold_held store.old last_known_shingle.old reference_count.old location.old index_starts.old index_ends.old labels.old label_attributes.old label_count.old label_starts.old label_ends.old attributes.old attribute_count.old attribute_starts.old attribute_ends.old held_indices.old held_labels.old)) (add_spec words_equal 0 (point_store h.old.store (held store.old last_known_shingle.old reference_count.old location.old index_starts.old index_ends.old labels.old label_attributes.old label_count.old label_starts.old label_ends.old attributes.old attribute_count.old attribute_starts.old attribute_ends.old)) point.now label) }
 {
-    let s = h.store;
-    let changes = add_unchecked(
-        s,
+    let added = add_unchecked(
+        &mut h.store,
         store,
         last_known_shingle,
         reference_count,
@@ -74,14 +75,13 @@ fn add_checked(
         point,
         label,
         figures,
-    );
-    let after = with_changes(s, changes);
-    let answer = changes.answer;
-    let given = given_by(answer);
-    let hold = keep_point(
+    )?;
+    let Some(kept) = added else {
+        return Ok(None);
+    };
+    keep_point(
         h,
-        after,
-        given,
+        kept,
         store,
         last_known_shingle,
         reference_count,
@@ -100,11 +100,11 @@ fn add_checked(
         held_indices,
         held_labels,
     );
-    HoldAddResult { hold, answer }
+    Ok(Some(kept))
 }
 
 pub fn add(
-    h: Hold,
+    h: &mut Hold,
     store: &mut [FloatBits],
     last_known_shingle: &mut [FloatBits],
     reference_count: &mut [u16],
@@ -124,10 +124,34 @@ pub fn add(
     held_labels: &mut [u16],
     point: &[FloatBits],
     label: usize,
-) -> HoldAddResult
-    ensures { hold_outcome (added_means result.answer) (point_hold result.hold (hold_held store.new last_known_shingle.new reference_count.new location.new index_starts.new index_ends.new labels.new label_attributes.new label_count.new label_starts.new label_ends.new attributes.new attribute_count.new attribute_starts.new attribute_ends.new held_indices.new held_labels.new)) ≡ hold_add_spec words_equal 0 (point_hold h (hold_held store.old last_known_shingle.old reference_count.old location.old index_starts.old index_ends.old labels.old label_attributes.old label_count.old label_starts.old label_ends.old attributes.old attribute_count.old attribute_starts.old attribute_ends.old held_indices.old held_labels.old)) point.now label }
+) -> Result<Option<Kept>, Refusal>
+    ensures { hold_outcome (added_means result) (point_hold h.new (hold_held store.new last_known_shingle.new reference_count.new location.new index_starts.new index_ends.new labels.new label_attributes.new label_count.new label_starts.new label_ends.new attributes.new attribute_count.new attribute_starts.new attribute_ends.new held_indices.new held_labels.new)) ≡ hold_add_spec words_equal 0 (point_hold h.old (hold_held store.old last_known_shingle.old reference_count.old location.old index_starts.old index_ends.old labels.old label_attributes.old label_count.old label_starts.old label_ends.old attributes.old attribute_count.old attribute_starts.old attribute_ends.old held_indices.old held_labels.old)) point.now label }
 {
-    let checked = check_hold(
+    let tables = Tables::new(
+        reference_count,
+        location,
+        index_starts,
+        index_ends,
+        labels,
+        label_attributes,
+        label_count,
+        label_starts,
+        label_ends,
+        attributes,
+        attribute_count,
+        attribute_starts,
+        attribute_ends,
+    );
+    let figures = check_hold(
+        *h,
+        store,
+        last_known_shingle,
+        tables,
+        held_indices,
+        held_labels,
+    )
+    .ok_or(Refusal::IllFormed)?;
+    add_checked(
         h,
         store,
         last_known_shingle,
@@ -146,36 +170,8 @@ pub fn add(
         attribute_ends,
         held_indices,
         held_labels,
-    );
-    let ok = checked.ok;
-    if ok {
-        let figures = checked.figures;
-        return add_checked(
-            h,
-            store,
-            last_known_shingle,
-            reference_count,
-            location,
-            index_starts,
-            index_ends,
-            labels,
-            label_attributes,
-            label_count,
-            label_starts,
-            label_ends,
-            attributes,
-            attribute_count,
-            attribute_starts,
-            attribute_ends,
-            held_indices,
-            held_labels,
-            point,
-            label,
-            figures,
-        );
-    }
-    HoldAddResult {
-        hold: h,
-        answer: Added::Refused(Refusal::IllFormed),
-    }
+        point,
+        label,
+        figures,
+    )
 }

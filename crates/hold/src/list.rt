@@ -14,13 +14,8 @@ fn slide(list: &mut [u16], held: usize, entry: usize)
     requires { (0 < held) × ((held ≤ length list.old) × (entry < 65536)) }
     ensures { list.new ≡ written_to list.old (drop 1 (take held list.old ++ entry ∷ [])) }
 {
-    let last = held - 1;
-    let mut k = 0;
-    while k < last {
-        list[k] = list[k + 1];
-        k += 1;
-    }
-    list[last] = entry as u16;
+    list.copy_within(1..held, 0);
+    list[held - 1] = entry as u16;
 }
 
 // With labels off the labels' table is left as it was.

@@ -1,21 +1,26 @@
 -- The record's tests put together, and what places that rise along a list say of the table that they are found in.
-use Rattle.std.proofs.Common.{◌≡◌, ℕ, ◌≤◌, Bool, true, false, cond, ◌&&◌, List, length, take, sym, ◌∙◌, ap₂, length-take-le}
+use Rattle.std.proofs.Common.{◌≡◌, refl, Some, None, ℕ, ◌≤◌, Bool, true, false, ◌&&◌, List, length, take, sym, ◌∙◌, ap₂, length-take-le}
+use Rattle.std.specs.Bool.{then_some}
 use Rattle.terms.specs.Below.{both}
 use Rattle.labels.specs.Counted.{counted, managed, free_uncounted}
 use Rattle.store_definitions.specs.declared.Store.{Store}
 use Rattle.store_definitions.specs.Parts.{table_length}
 use Rattle.store_definitions.specs.WellFormed.{empty_uncounted, places_distinct, places_end}
-use Rattle.class_table.specs.Table.{table_allowed}
-use Rattle.store_check.specs.CheckLaws.{record_test, numbers_test, record_parts}
-use Rattle.store_check.specs.PointsTest.{table_test, TableFound}
+use Rattle.labels.specs.Labels.{Labels}
+use Rattle.label_check.specs.Checked.{labels_checked}
+use Rattle.store_check.specs.PointsTest.{points_test, table_test, points_are, TableFound}
 use Rattle.hold_check.specs.Rising.{Rises, single_counts, ListKnown, rising_distinct, rising_listed}
 
-pub record_tested : (s : Store) (floats window counts places starts ends : ℕ) (table numbers : Bool) {b : Bool} → table ≡ table_allowed s.classes → numbers ≡ numbers_test s floats window counts places starts ends → (table && numbers) ≡ b → record_test s floats window counts places starts ends ≡ b
-record_tested s floats window counts places starts ends table numbers e f t =
-    record_parts s floats window counts places starts ends ∙ ap₂ (λ (x y : Bool). x && y) (sym e) (sym f) ∙ t
+-- the points' half decided, as the check of a store has it
+pub passed : (test : Bool) (live n : ℕ) → true ≡ test → live ≡ n → Some live ≡ then_some test n
+passed test live n e f = rw (sym e, f) refl
 
-pub labels_off : (on half : Bool) → on ≡ false → true ≡ cond on half true
-labels_off on half e = rw e
+pub failed : (test : Bool) (n : ℕ) → false ≡ test → None ≡ then_some test n
+failed test n e = rw (sym e) refl
+
+-- with labels off none are counted
+pub labels_off : (on : Bool) (classes : List ℕ) (capacity : ℕ) (l : Labels) → on ≡ false → Some (record { labels = 0; slots = 0 }) ≡ labels_checked on classes capacity l
+labels_off on classes capacity l e = rw e refl
 
 module _ (s : Store) (counts location starts ends : List ℕ) where
   abbrev n : ℕ
@@ -29,18 +34,21 @@ module _ (s : Store) (counts location starts ends : List ℕ) where
       let b = both (free_uncounted n t) _ a.1 in
       (both (empty_uncounted n counts location) (places_end n s location) b.1).0
 
-  module _ (ok : Bool) (live limit : ℕ) (f : TableFound s counts location starts ends ok live limit) (w : ok ≡ true) (lent : n ≤ length location) (list : List ℕ) (held : ℕ) (room : held ≤ length list) (rises : Bool) (r : rises ≡ true → (held ≡ live) × Rises n 65535 location (take held list)) where
+  pub points_by : {t d : Bool} → t ≡ table_test s counts location starts ends → d ≡ places_distinct n location → (t && d) ≡ points_test s counts location starts ends
+  points_by e f = ap₂ (λ (a b : Bool). a && b) e f ∙ points_are s counts location starts ends
+
+  module _ (live limit : ℕ) (f : TableFound s counts location live limit) (w : table_test s counts location starts ends ≡ true) (lent : n ≤ length location) (list : List ℕ) (held : ℕ) (room : held ≤ length list) (rises : Bool) (r : rises ≡ true → (held ≡ live) × Rises n 65535 location (take held list)) where
     pub list_distinct : rises ≡ true → places_distinct n location ≡ true
     list_distinct t =
-        rising_distinct n counts location (take held list) (r t).1 lent (table_empty (sym f.is ∙ w))
-        (length-take-le held list room ∙ (r t).0 ∙ f.live_is w)
+        rising_distinct n counts location (take held list) (r t).1 lent (table_empty w)
+        (length-take-le held list room ∙ (r t).0 ∙ f.live_is)
 
     pub list_known : (listed : Bool) → listed ≡ (rises && single_counts n counts) → ListKnown n held live counts list listed
     list_known listed e t =
         let b = both rises (single_counts n counts) (sym e ∙ t) in (
           (r b.0).0,
           sym
-              (rising_listed n counts location (take held list) (r b.0).1 lent (table_empty (sym f.is ∙ w))
-              (length-take-le held list room ∙ (r b.0).0 ∙ f.live_is w))
+              (rising_listed n counts location (take held list) (r b.0).1 lent (table_empty w)
+              (length-take-le held list room ∙ (r b.0).0 ∙ f.live_is))
               ∙ b.1,
         )

@@ -129,7 +129,7 @@ module _ {E : Type 0} (h : PointHold E) where
   abbrev p : PointStore E
   p = store_of h
 
-  abbrev recorded : Bool
+  abbrev pub recorded : Bool
   recorded =
       record_holds h.header.width h.header.held p.header.capacity p.header.store_labels (length h.memory.held_indices) (length h.memory.held_labels)
 
@@ -177,7 +177,7 @@ module _ {E : Type 0} (h : PointHold E) where
         labels_lent_lem = λ q. omega (arith, leb-true c (length h.memory.held_labels) (asked on (nat_le c (length h.memory.held_labels)) d.1 q));
       }
 
-  abbrev listed : ℕ → Bool
+  abbrev pub listed : ℕ → Bool
   listed live =
       list_holds live h.header.held (table_length p.header) p.header.capacity p.header.store_labels p.memory.reference_count p.memory.label_count h.memory.held_indices h.memory.held_labels
 

@@ -3,3 +3,4 @@ pub mod CheckLaws
 pub mod Rising
 pub mod Runs
 pub mod Steady
+pub mod Checked

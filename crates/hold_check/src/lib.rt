@@ -10,5 +10,5 @@ mod rise;
 mod steady;
 mod store;
 
-pub use check::{HoldChecked, check_hold};
+pub use check::check_hold;
 pub use read::{held, held_number};

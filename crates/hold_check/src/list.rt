@@ -12,8 +12,7 @@ fn mark_entry(limit: usize, entry: usize, counts: &[u16], marks: &mut [bool]) ->
     if entry < limit {
         let met = marks[entry];
         marks[entry] = true;
-        let single = counts[entry] == 1;
-        return single & !met;
+        return (counts[entry] == 1) & !met;
     }
     false
 }
@@ -24,29 +23,19 @@ fn mark_list(limit: usize, held: usize, counts: &[u16], list: &[u16], marks: &mu
     ensures { result ≡ listed_once limit counts.now (take held list.now) }
 {
     let mut ok = true;
-    let mut k = 0;
-    while k < held {
-        let well = mark_entry(limit, list[k] as usize, counts, marks);
-        ok = ok & well;
-        k += 1;
+    for k in 0..held {
+        ok &= mark_entry(limit, list[k] as usize, counts, marks);
     }
     ok
 }
 
-fn once_in_64(limit: usize, held: usize, counts: &[u16], list: &[u16]) -> bool
-    requires { (limit ≤ 64) × ((limit ≤ length counts.now) × (held ≤ length list.now)) }
+// With a table of N marks.
+fn once_in<const N: usize>(limit: usize, held: usize, counts: &[u16], list: &[u16]) -> bool
+    requires { (N ≤ 1024) × ((limit ≤ N) × ((limit ≤ length counts.now) × (held ≤ length list.now))) }
     ensures { result ≡ listed_once limit counts.now (take held list.now) }
 {
-    let mut marks = [false; 64];
-    mark_list(limit, held, counts, list, &mut marks[..])
-}
-
-fn once_in_1024(limit: usize, held: usize, counts: &[u16], list: &[u16]) -> bool
-    requires { (limit ≤ 1024) × ((limit ≤ length counts.now) × (held ≤ length list.now)) }
-    ensures { result ≡ listed_once limit counts.now (take held list.now) }
-{
-    let mut marks = [false; 1024];
-    mark_list(limit, held, counts, list, &mut marks[..])
+    let mut marks = [false; N];
+    mark_list(limit, held, counts, list, &mut marks)
 }
 
 // With a table of marks no larger than the limit asks for.
@@ -55,9 +44,9 @@ fn listed_once(limit: usize, held: usize, counts: &[u16], list: &[u16]) -> bool
     ensures { result ≡ listed_once limit counts.now (take held list.now) }
 {
     if limit <= 64 {
-        return once_in_64(limit, held, counts, list);
+        return once_in::<64>(limit, held, counts, list);
     }
-    once_in_1024(limit, held, counts, list)
+    once_in::<1024>(limit, held, counts, list)
 }
 
 // Whether no count is above 1.
@@ -66,10 +55,8 @@ pub fn counts_single(n: usize, counts: &[u16]) -> bool
     ensures { result ≡ single_counts n counts.now }
 {
     let mut ok = true;
-    let mut i = 0;
-    while i < n {
-        ok = ok & (counts[i] < 2);
-        i += 1;
+    for i in 0..n {
+        ok &= counts[i] < 2;
     }
     ok
 }

@@ -11,10 +11,8 @@ fn listed_below(n: u16, held: usize, list: &[u16]) -> bool
     ensures { result ≡ every_below held (λ k. nat_lt (slice_index list.now k) n) }
 {
     let mut ok = true;
-    let mut k = 0;
-    while k < held {
-        ok = ok & (list[k] < n);
-        k += 1;
+    for k in 0..held {
+        ok &= list[k] < n;
     }
     ok
 }
@@ -27,14 +25,11 @@ fn places_rise(n: usize, held: usize, location: &[u16], list: &[u16]) -> bool
     let mut falls: usize = 0;
     let mut next: usize = 0;
     if listed_below(n as u16, held, list) {
-        let mut k = 0;
-        while k < held {
-            let entry = list[k] as usize;
-            let place = location[entry] as usize;
+        for k in 0..held {
+            let place = location[list[k] as usize] as usize;
             let fall = place < next;
             falls += fall as usize;
             next = place + 1;
-            k += 1;
         }
         return (falls == 0) & (next <= 65535);
     }
@@ -57,11 +52,8 @@ fn runs_listed(held: usize, first: usize, end: u16, list: &[u16]) -> bool
     ensures { result ≡ runs_listed held first end list.now }
 {
     let mut ok = true;
-    let mut k = 0;
-    while k < held {
-        let entry = turn(end, (first + k) as u16);
-        ok = ok & (list[k] == entry);
-        k += 1;
+    for k in 0..held {
+        ok &= list[k] == turn(end, (first + k) as u16);
     }
     ok
 }
@@ -72,11 +64,9 @@ fn places_fall(to: usize, location: &[u16]) -> u16
     ensures { result ≡ count_below to (falls location.now) }
 {
     let mut count: u16 = 0;
-    let mut i = 0;
-    while i < to {
+    for i in 0..to {
         let fall = location[i + 1] <= location[i];
         count += fall as u16;
-        i += 1;
     }
     count
 }

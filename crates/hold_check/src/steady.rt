@@ -1,6 +1,6 @@
 // A hold as its own calls leave it: one interval of free indices or two, and a list of one run of indices or two. Then nothing is
 // marked: each entry of the points' table is held against the intervals, and the places against their neighbours.
-ghost use Rattle.std.specs.Prelude.{◌≡◌, ◌+◌, ◌-◌, ◌*◌, ◌<◌, ◌≤◌, true, false, cond, ◌||◌, length, slice_index};
+ghost use Rattle.std.specs.Prelude.{◌≡◌, ◌+◌, ◌-◌, ◌*◌, ◌<◌, ◌≤◌, true, false, cond, ◌||◌, length, slice_index, IfSome};
 ghost use Rattle.interval_store_manager.specs.Intervals.{inside};
 ghost use Rattle.store_check.specs.PointsTest.{PointsReady};
 ghost use Rattle.hold_check.specs.Steady.{pair_apart, PairOf, pair_size, entry_held, entries_held, Steady};
@@ -14,7 +14,6 @@ use terms::EMPTY_PLACE;
 // there twice.
 #[derive(Clone, Copy)]
 struct Pair {
-    ok: bool,
     start: u16,
     more: u16,
     other: u16,
@@ -41,9 +40,9 @@ fn pair_size(count: usize, more: u16, further: u16) -> usize
     more as usize + further as usize + 2
 }
 
-fn pair_of(n: usize, count: usize, starts: &[u16], ends: &[u16]) -> Pair
+fn pair_of(n: usize, count: usize, starts: &[u16], ends: &[u16]) -> Option<Pair>
     requires { ((1 ≤ count) × (count ≤ 2)) × ((count ≤ n) × ((n ≤ 1024) × ((n ≤ length starts.now) × (n ≤ length ends.now)))) }
-    ensures { result.ok ≡ true → PairOf n count starts.now ends.now result.start result.more result.other result.further result.free }
+    ensures { IfSome result (λ pair. PairOf n count starts.now ends.now pair.start pair.more pair.other pair.further pair.free) }
 {
     let start = starts[0];
     let end = ends[0];
@@ -52,23 +51,15 @@ fn pair_of(n: usize, count: usize, starts: &[u16], ends: &[u16]) -> Pair
     if pair_apart(n, count, start, end, other, last) {
         let more = end - start;
         let further = last - other;
-        return Pair {
-            ok: true,
+        return Some(Pair {
             start,
             more,
             other,
             further,
             free: pair_size(count, more, further),
-        };
+        });
     }
-    Pair {
-        ok: false,
-        start: 0,
-        more: 0,
-        other: 0,
-        further: 0,
-        free: 0,
-    }
+    None
 }
 
 // Whether the interval holds the index: by one comparison, since a difference that wraps is larger than every interval.
@@ -89,27 +80,16 @@ fn entry_held(free: bool, count: u16, place: u16) -> bool
 }
 
 // No early exit: every entry is read.
-fn entries_held(
-    n: usize,
-    start: u16,
-    more: u16,
-    other: u16,
-    further: u16,
-    reference_count: &[u16],
-    location: &[u16],
-) -> bool
-    requires { (n ≤ 1024) × (((start + more < 65536) × (other + further < 65536)) × ((n ≤ length reference_count.now) × (n ≤ length location.now))) }
-    ensures { result ≡ entries_held n start more other further reference_count.now location.now }
+fn entries_held(n: usize, pair: Pair, reference_count: &[u16], location: &[u16]) -> bool
+    requires { (n ≤ 1024) × (((pair.start + pair.more < 65536) × (pair.other + pair.further < 65536)) × ((n ≤ length reference_count.now) × (n ≤ length location.now))) }
+    ensures { result ≡ entries_held n pair.start pair.more pair.other pair.further reference_count.now location.now }
 {
     let mut ok = true;
-    let mut i = 0;
-    while i < n {
+    for i in 0..n {
         let at = i as u16;
-        let first = within(at, start, more);
-        let second = within(at, other, further);
-        let held = entry_held(first | second, reference_count[i], location[i]);
-        ok = ok & held;
-        i += 1;
+        let first = within(at, pair.start, pair.more);
+        let second = within(at, pair.other, pair.further);
+        ok &= entry_held(first | second, reference_count[i], location[i]);
     }
     ok
 }
@@ -153,31 +133,20 @@ pub fn steady(
     let count = manager.last_in_use;
     let lent = lent_enough(n, index_starts, index_ends);
     if lent & (((1 <= count) & (count <= 2)) & (count <= n)) {
-        let pair = pair_of(n, count, index_starts, index_ends);
-        let paired = pair.ok;
-        if paired {
-            if n - pair.free == held {
-                if entries_held(
-                    n,
-                    pair.start,
-                    pair.more,
-                    pair.other,
-                    pair.further,
-                    reference_count,
+        if let Some(pair) = pair_of(n, count, index_starts, index_ends) {
+            if n - pair.free == held
+                && entries_held(n, pair, reference_count, location)
+                && runs_rise(n, held, location, held_indices)
+            {
+                let base = s.dimensions / s.shingle_size;
+                return last_ends(
+                    held,
+                    base,
+                    s.dimensions,
+                    s.start_free_region,
                     location,
-                ) {
-                    if runs_rise(n, held, location, held_indices) {
-                        let base = s.dimensions / s.shingle_size;
-                        return last_ends(
-                            held,
-                            base,
-                            s.dimensions,
-                            s.start_free_region,
-                            location,
-                            held_indices,
-                        );
-                    }
-                }
+                    held_indices,
+                );
             }
         }
     }

@@ -1,29 +1,28 @@
 // The check of a hold's store: as `store_check` does it, but that a hold as its own calls leave it needs no marks, and that places which rise
 // along the list are distinct.
-ghost use Rattle.std.specs.Prelude.{◌≡◌, ◌≤◌, true, ◌&&◌, length};
+ghost use Rattle.std.specs.Prelude.{◌≡◌, ◌≤◌, true, ◌&&◌, length, is_some, IfSome};
 ghost use Rattle.store_definitions.specs.Memory.{point_store};
 ghost use Rattle.store_definitions.specs.Parts.{table_length};
-ghost use Rattle.store_definitions.specs.WellFormed.{well_formed, places_distinct};
+ghost use Rattle.store_definitions.specs.WellFormed.{places_distinct};
 ghost use Rattle.store_check.specs.Entries.{counts_live, PlacesBelow};
-ghost use Rattle.store_check.specs.Figures.{FiguresOf};
+ghost use Rattle.store_check.specs.Checked.{checked};
 ghost use Rattle.store_check.specs.PointsTest.{points_test, PointsReady};
+ghost use Rattle.hold_check.specs.Checked.{figures_found};
 ghost use Rattle.hold_check.specs.Rising.{single_counts, ListKnown};
-ghost use Rattle.store_check.specs.Tables.{tables};
+ghost use Rattle.store_check.specs.Tables.{tables_lent};
 
 use crate::list::counts_single;
 use crate::rise::live_rise;
 use crate::steady::steady;
-use class_table::table_allowed;
 use label_check::labels_well_formed;
 use labels::{LabelManagers, LabelsFree};
-use store_check::{Figures, Lengths, numbers_well, places_distinct, table_well};
-use store_definitions::Store;
+use store_check::{Figures, lengths_of, places_distinct, record_well, table_well};
+use store_definitions::{Store, Tables};
 
-// What is found: whether the store is well-formed, and then what was counted and whether the list is known to name each live point once,
-// each with count 1.
+// What is found of a store that is well-formed: what was counted, and whether the list is known to name each live point once, each with
+// count 1.
 #[derive(Clone, Copy)]
 pub struct StoreListed {
-    pub ok: bool,
     pub figures: Figures,
     pub listed: bool,
 }
@@ -31,7 +30,6 @@ pub struct StoreListed {
 // The same of the points alone.
 #[derive(Clone, Copy)]
 struct PointsListed {
-    ok: bool,
     live: usize,
     listed: bool,
 }
@@ -66,9 +64,9 @@ fn points_listed(
     index_ends: &[u16],
     held: usize,
     held_indices: &[u16],
-) -> PointsListed
+) -> Option<PointsListed>
     requires { PointsReady s reference_count.now location.now × (held ≤ length held_indices.now) }
-    ensures { (result.ok ≡ points_test s reference_count.now location.now index_starts.now index_ends.now) × ((result.ok ≡ true → (result.live ≡ counts_live (table_length s) reference_count.now) × ListKnown (table_length s) held result.live reference_count.now held_indices.now result.listed)) }
+    ensures { (is_some result ≡ points_test s reference_count.now location.now index_starts.now index_ends.now) × IfSome result (λ points. (points.live ≡ counts_live (table_length s) reference_count.now) × ListKnown (table_length s) held points.live reference_count.now held_indices.now points.listed) }
 {
     if steady(
         s,
@@ -79,133 +77,84 @@ fn points_listed(
         held,
         held_indices,
     ) {
-        return PointsListed {
-            ok: true,
+        return Some(PointsListed {
             live: held,
             listed: true,
-        };
+        });
     }
-    let table = table_well(s, reference_count, location, index_starts, index_ends);
-    let well = table.ok;
-    if well {
-        let n = s.index_manager.capacity;
-        let rises = live_rise(table.live, n, held, location, held_indices);
-        let ok = distinct(rises, n, table.limit, location);
+    let table = table_well(s, reference_count, location, index_starts, index_ends)?;
+    let n = s.index_manager.capacity;
+    let rises = live_rise(table.live, n, held, location, held_indices);
+    if distinct(rises, n, table.limit, location) {
         let listed = rising_single(rises, n, reference_count);
-        return PointsListed {
-            ok,
+        return Some(PointsListed {
             live: table.live,
             listed,
-        };
+        });
     }
-    PointsListed {
-        ok: false,
-        live: 0,
-        listed: false,
-    }
+    None
 }
 
 pub fn store_well(
     s: Store,
     floats: usize,
     window: usize,
-    reference_count: &[u16],
-    location: &[u16],
-    index_starts: &[u16],
-    index_ends: &[u16],
-    labels: &[u8],
-    label_attributes: &[u16],
-    label_count: &[u16],
-    label_starts: &[u16],
-    label_ends: &[u16],
-    attributes: &[u8],
-    attribute_count: &[u32],
-    attribute_starts: &[u16],
-    attribute_ends: &[u16],
+    tables: Tables,
     held: usize,
     held_indices: &[u16],
-) -> StoreListed
+) -> Option<StoreListed>
     requires { held ≤ length held_indices.now }
-    ensures { (result.ok ≡ well_formed (point_store s (tables floats window reference_count.now location.now index_starts.now index_ends.now labels.now label_attributes.now label_count.now label_starts.now label_ends.now attributes.now attribute_count.now attribute_starts.now attribute_ends.now))) × ((result.ok ≡ true → FiguresOf result.figures (point_store s (tables floats window reference_count.now location.now index_starts.now index_ends.now labels.now label_attributes.now label_count.now label_starts.now label_ends.now attributes.now attribute_count.now attribute_starts.now attribute_ends.now)) × ListKnown (table_length s) held result.figures.live reference_count.now held_indices.now result.listed)) }
+    ensures { (figures_found result ≡ checked (point_store s (tables_lent floats window tables.entry))) × IfSome result (λ store. ListKnown (table_length s) held store.figures.live tables.entry.reference_count.now held_indices.now store.listed) }
 {
-    let lent = Lengths {
+    let lent = lengths_of(
         floats,
         window,
-        counts: reference_count.len(),
-        places: location.len(),
-        starts: index_starts.len(),
-        ends: index_ends.len(),
-    };
-    let classes = s.classes;
-    let table = table_allowed(classes);
-    let numbers = numbers_well(s, lent);
-    if table & numbers {
-        let points = points_listed(
-            s,
-            reference_count,
-            location,
-            index_starts,
-            index_ends,
-            held,
-            held_indices,
-        );
-        let well = points.ok;
-        if well {
-            // With labels off nothing is handed on: the slices of a call cost more than the call.
-            if s.store_labels {
-                let label_manager = s.label_manager;
-                let attribute_manager = s.attribute_manager;
-                let managers = LabelManagers {
-                    label_manager,
-                    attribute_manager,
-                };
-                let half = labels_well_formed(
-                    s.store_labels,
-                    &s.classes,
-                    s.capacity,
-                    managers,
-                    labels,
-                    label_attributes,
-                    label_count,
-                    label_starts,
-                    label_ends,
-                    attributes,
-                    attribute_count,
-                    attribute_starts,
-                    attribute_ends,
-                );
-                let free = half.free;
-                return StoreListed {
-                    ok: half.ok,
-                    figures: Figures {
-                        live: points.live,
-                        free,
-                    },
-                    listed: points.listed,
-                };
-            }
-            return StoreListed {
-                ok: true,
-                figures: Figures {
-                    live: points.live,
-                    free: LabelsFree {
-                        labels: 0,
-                        slots: 0,
-                    },
+        tables.reference_count,
+        tables.location,
+        tables.index_starts,
+        tables.index_ends,
+    );
+    if !record_well(s, lent) {
+        return None;
+    }
+    let points = points_listed(
+        s,
+        tables.reference_count,
+        tables.location,
+        tables.index_starts,
+        tables.index_ends,
+        held,
+        held_indices,
+    )?;
+    // With labels off nothing is handed on: the slices of a call cost more than the call.
+    if !s.store_labels {
+        return Some(StoreListed {
+            figures: Figures {
+                live: points.live,
+                free: LabelsFree {
+                    labels: 0,
+                    slots: 0,
                 },
-                listed: points.listed,
-            };
-        }
-    }
-    StoreListed {
-        ok: false,
-        figures: Figures {
-            live: 0,
-            free: LabelsFree {
-                labels: 0,
-                slots: 0,
             },
-        },
-        listed: false,
+            listed: points.listed,
+        });
     }
+    let managers = LabelManagers {
+        label_manager: s.label_manager,
+        attribute_manager: s.attribute_manager,
+    };
+    let free = labels_well_formed(
+        s.store_labels,
+        &s.classes,
+        s.capacity,
+        managers,
+        tables.label_tables,
+    )?;
+    Some(StoreListed {
+        figures: Figures {
+            live: points.live,
+            free,
+        },
+        listed: points.listed,
+    })
 }

@@ -1,5 +1,5 @@
 -- Opening a hold: what is refused and with which number, and that an accepted opening is well-formed.
-use Rattle.std.specs.Prelude.{ℕ, Bool, true, false, cond, not, List, length, take, leb}
+use Rattle.std.specs.Prelude.{ℕ, Bool, true, false, cond, not, None, List, length, take, leb}
 use Rattle.std.proofs.Math.Decide.{dec_lt}
 use Rattle.std.proofs.Common.{arith, subst, ◌∙◌}
 use Rattle.std.proofs.Math.Path.{◌≡◌, refl, sym, ap}
@@ -53,7 +53,7 @@ module _ {E : Type 0} (s : Shape) (width : ℕ) (text : List ℕ) (m : HoldMemor
     pub hold_open_store_short : lent ≡ true → lent_enough s.dimensions s.capacity s.store_labels m.store ≡ false → hold_open_decided s width text m ≡ refuse 1
     hold_open_store_short g l = asks ∙ (rw (g, open_short s text m.store e l))
 
-    pub hold_open_text : lent ≡ true → lent_enough s.dimensions s.capacity s.store_labels m.store ≡ true → (table_read text).ok ≡ false → hold_open_decided s width text m ≡ refuse 17
+    pub hold_open_text : lent ≡ true → lent_enough s.dimensions s.capacity s.store_labels m.store ≡ true → table_read text ≡ None → hold_open_decided s width text m ≡ refuse 17
     hold_open_text g l t = asks ∙ (rw (g, open_text s text m.store e l t))
 
   pub record Openable : Type 0 where

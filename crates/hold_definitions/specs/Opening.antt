@@ -1,5 +1,7 @@
 -- Opening a hold: its store, its width, and an empty list.
-use Rattle.std.specs.Prelude.{ℕ, not, List}
+use Rattle.std.specs.Prelude.{ℕ, not, List, Result, Ok, Err}
+use Rattle.terms.specs.Refusals.{number}
+use Rattle.terms.specs.declared.Refusal.{Refusal}
 use Rattle.interval_store_manager.specs.Calls.{Decided, go, refuse}
 use Rattle.store_definitions.specs.declared.Shape.{Shape}
 use Rattle.store_definitions.specs.Memory.{PointStore}
@@ -29,6 +31,11 @@ fresh_hold width p m =
 -- the record of zeros, where there is no hold
 abbrev pub no_hold : Hold
 no_hold = record { store = no_record; width = 0; held = 0 }
+
+-- what an opening answers, with the hold and the memory after it
+abbrev pub hold_opened : {E : Type 0} → Result Hold Refusal → HoldMemory E → HoldOutcome E
+hold_opened (Ok h) m = hold_outcome done (point_hold h m)
+hold_opened (Err r) m = hold_outcome (refused (number r)) (point_hold no_hold m)
 
 module _ {E : Type 0} (zero_element : E) where
   -- a refused opening gives the record of zeros, and the memory as it was

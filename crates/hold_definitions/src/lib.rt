@@ -2,7 +2,7 @@
 // interface are here, what every call does is in specs/; the code stands in the crate above.
 #![tactic(auto)]
 
-use store_definitions::{Added, Done, Store};
+use store_definitions::Store;
 
 // The record of a hold. Its store's memory is lent beside it, with two tables more: the held point indices and their label
 // indices, oldest first.
@@ -13,17 +13,4 @@ pub struct Hold {
     pub width: usize,
     // How many entries of the two tables are in use.
     pub held: usize,
-}
-
-// The record after a call, with its answer. A refused opening gives a record of zeros.
-#[derive(Clone, Copy)]
-pub struct HoldDoneResult {
-    pub hold: Hold,
-    pub answer: Done,
-}
-
-#[derive(Clone, Copy)]
-pub struct HoldAddResult {
-    pub hold: Hold,
-    pub answer: Added,
 }

@@ -1,11 +1,13 @@
 -- A program's adds are a run: the hold that they leave, and their answers, are those of which the hold's guarantee speaks.
-use Rattle.std.specs.Prelude.{ℕ, List, [], ◌∷◌, ◌≡◌, refl}
+use Rattle.std.specs.Prelude.{ℕ, List, [], ◌∷◌, ◌≡◌, refl, Result}
+use Rattle.terms.specs.declared.Refusal.{Refusal}
 use Rattle.std.proofs.Common.{ap, sym, ◌∙◌}
 use Rattle.float_bits.specs.Words.{words_equal}
 use Rattle.store_definitions.specs.declared.Shape.{Shape}
-use Rattle.store_definitions.specs.declared.Done.{Done}
-use Rattle.store_definitions.specs.Answers.{Answer, done, done_means}
-use Rattle.hold_definitions.specs.Memory.{HoldMemory, PointHold, point_hold}
+use Rattle.store_definitions.specs.Answers.{Answer, done}
+use Rattle.hold_definitions.specs.declared.Hold.{Hold}
+use Rattle.hold_definitions.specs.Memory.{HoldMemory, PointHold}
+use Rattle.hold_definitions.specs.Opening.{hold_opened}
 use Rattle.hold_definitions.specs.Answers.{HoldOutcome, hold_outcome}
 use Rattle.hold_definitions.specs.Lent.{hold_left}
 use Rattle.hold_guarantee.specs.Calls.{hold_open_call, hold_add_call}
@@ -15,8 +17,8 @@ use Rattle.hold_guarantee.proofs.Theorem.{hold_guaranteed}
 use Rattle.hold_guarantee.specs.Ran.{HoldOpened, opens, HoldRan, none_yet, adds}
 
 pub opened_is : {s : Shape} {width : ℕ} {text : List ℕ} {m : HoldMemory ℕ} {start : PointHold ℕ} → HoldOpened s width text m start → hold_open_call 0 s width text m ≡ hold_outcome done start
-opened_is (opens s width a b c d e f g h i j k l m n o x y t r ensures accepted) =
-    sym ensures ∙ ap (λ (z : Done). hold_outcome (done_means z) (point_hold r.hold (hold_left a b c d e f g h i j k l m n o x y))) accepted
+opened_is (opens s width a b c d e f g h i j k l m n o x y t answer r ensures accepted) =
+    sym ensures ∙ ap (λ (z : Result Hold Refusal). hold_opened z (hold_left a b c d e f g h i j k l m n o x y)) accepted
 
 -- what a run answers
 unfoldable pub hold_answers_to : PointHold ℕ → List (HoldAdd ℕ) → List Answer
@@ -41,7 +43,7 @@ one_more c {start} {before} {answers} {a} {p} {q} ensures run =
 pub ran : {start : PointHold ℕ} {before : List (HoldAdd ℕ)} {answers : List Answer} {q : PointHold ℕ} → HoldRan start before answers q → IsHoldRun start before answers q
 unfolding hold_after hold_answers_to
 ran none_yet = record { hold = refl; answers_same = refl }
-ran (adds t a b c d e f g h i j k l m n o x y point label r before ensures) = one_more (record { point = point.entry; code = label }) ensures (ran before)
+ran (adds t after a b c d e f g h i j k l m n o x y point label r before ensures) = one_more (record { point = point.entry; code = label }) ensures (ran before)
 
 -- and so the guarantee is one of the program
 pub hold_program_guaranteed : {s : Shape} {width : ℕ} {text : List ℕ} {m : HoldMemory ℕ} {start : PointHold ℕ} {before : List (HoldAdd ℕ)} {answers : List Answer} {q : PointHold ℕ}

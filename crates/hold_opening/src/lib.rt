@@ -1,118 +1,72 @@
 // Opening a hold in lent memory: its store, its width, and an empty list.
+// Kept: an opening writes to slices that stand nowhere together but in its own parameters, so a struct of them would be made for one call.
 #![tactic(auto)]
 
 ghost use Rattle.std.specs.Prelude.{◌≡◌};
-ghost use Rattle.hold_definitions.specs.Answers.{hold_outcome};
 ghost use Rattle.hold_definitions.specs.Lent.{hold_held};
-ghost use Rattle.hold_definitions.specs.Memory.{point_hold};
-ghost use Rattle.hold_definitions.specs.Opening.{no_hold, hold_open_spec};
+ghost use Rattle.hold_definitions.specs.Opening.{no_hold, hold_opened, hold_open_spec};
 ghost use Rattle.interval_store_manager.specs.Calls.{decision_means};
-ghost use Rattle.store_definitions.specs.Answers.{done_means};
-ghost use Rattle.hold_opening.specs.Openings.{opened_as, shape_asked, width_asked, tables_asked, open_asked};
+ghost use Rattle.hold_opening.specs.Openings.{width_asked, tables_asked, open_asked};
 
-use hold_definitions::{Hold, HoldDoneResult};
-use interval_store_manager::Decision;
-use store_check::bounds_hold;
-use store_definitions::{Done, DoneResult, Shape};
-use store_rows::{no_record, open};
+use hold_definitions::Hold;
+use store_definitions::Shape;
+use store_rows::{no_record, open, shape_allowed};
 use terms::{FloatBits, Refusal};
 
 // With labels off the table of label indices is not looked at.
-fn tables_decision(capacity: usize, store_labels: bool, indices: usize, labels: usize) -> Decision
+#[tactic(auto, unfolding(crate::specs::Openings::tables_asked))]
+fn tables_decision(
+    capacity: usize,
+    store_labels: bool,
+    indices: usize,
+    labels: usize,
+) -> Result<(), Refusal>
     ensures { decision_means result ≡ tables_asked capacity store_labels indices labels }
 {
     if indices < capacity {
-        return Decision::Refuse(Refusal::IllFormed);
+        return Err(Refusal::IllFormed);
     }
     if store_labels {
         if labels < capacity {
-            return Decision::Refuse(Refusal::IllFormed);
+            return Err(Refusal::IllFormed);
         }
     }
-    Decision::Go
+    Ok(())
 }
 
-fn width_decision(width: usize, capacity: usize) -> Decision
+#[tactic(auto, unfolding(crate::specs::Openings::width_asked, hold_definitions::specs::WellFormed::width_allowed))]
+fn width_decision(width: usize, capacity: usize) -> Result<(), Refusal>
     ensures { decision_means result ≡ width_asked width capacity }
 {
     if width < 1 {
-        return Decision::Refuse(Refusal::HoldWidth);
+        return Err(Refusal::HoldWidth);
     }
     if capacity <= width {
-        return Decision::Refuse(Refusal::HoldWidth);
+        return Err(Refusal::HoldWidth);
     }
-    Decision::Go
-}
-
-fn shape_decision(shape: Shape) -> Decision
-    ensures { decision_means result ≡ shape_asked shape }
-{
-    if bounds_hold(shape.dimensions, shape.shingle_size, shape.capacity) {
-        if shape.initial_capacity < 1 {
-            return Decision::Refuse(Refusal::Shape);
-        }
-        if shape.capacity < shape.initial_capacity {
-            return Decision::Refuse(Refusal::Shape);
-        }
-        return Decision::Go;
-    }
-    Decision::Refuse(Refusal::Shape)
+    Ok(())
 }
 
 // The shape, then the width, then the two tables; the rest of the memory is the store's.
-fn open_decision(shape: Shape, width: usize, indices: usize, labels: usize) -> Decision
+#[tactic(auto, unfolding(crate::specs::Openings::open_asked, crate::specs::Openings::shape_asked))]
+fn open_decision(shape: Shape, width: usize, indices: usize, labels: usize) -> Result<(), Refusal>
     ensures { decision_means result ≡ open_asked shape width indices labels }
 {
-    let shaped = shape_decision(shape);
-    match shaped {
-        Decision::Refuse(why) => Decision::Refuse(why),
-        Decision::Go => {
-            let wide = width_decision(width, shape.capacity);
-            match wide {
-                Decision::Refuse(why) => Decision::Refuse(why),
-                Decision::Go => {
-                    tables_decision(shape.capacity, shape.store_labels, indices, labels)
-                }
-            }
-        }
+    if !shape_allowed(shape) {
+        return Err(Refusal::Shape);
     }
+    width_decision(width, shape.capacity)?;
+    tables_decision(shape.capacity, shape.store_labels, indices, labels)
 }
 
-// What a refused opening gives in place of a record.
+// The record where an opening was refused: every call refuses it as ill-formed.
 pub fn no_hold() -> Hold
     ensures { result ≡ no_hold }
 {
-    let none = no_record();
     Hold {
-        store: none,
+        store: no_record(),
         width: 0,
         held: 0,
-    }
-}
-
-fn opened_hold(opened: DoneResult, width: usize) -> HoldDoneResult
-    ensures { result ≡ opened_as opened.answer opened.store width }
-{
-    let answer = opened.answer;
-    match answer {
-        Done::Refused(why) => {
-            let none = no_hold();
-            HoldDoneResult {
-                hold: none,
-                answer: Done::Refused(why),
-            }
-        }
-        Done::Done => {
-            let store = opened.store;
-            HoldDoneResult {
-                hold: Hold {
-                    store,
-                    width,
-                    held: 0,
-                },
-                answer: Done::Done,
-            }
-        }
     }
 }
 
@@ -138,39 +92,32 @@ pub fn open_hold(
     held_indices: &[u16],
     held_labels: &[u16],
     class_text: &[u8],
-) -> HoldDoneResult
-    ensures { hold_outcome (done_means result.answer) (point_hold result.hold (hold_held store.new last_known_shingle.new reference_count.new location.new index_starts.new index_ends.new labels.new label_attributes.new label_count.new label_starts.new label_ends.new attributes.new attribute_count.new attribute_starts.new attribute_ends.new held_indices.now held_labels.now)) ≡ hold_open_spec 0 shape width class_text.now (hold_held store.old last_known_shingle.old reference_count.old location.old index_starts.old index_ends.old labels.old label_attributes.old label_count.old label_starts.old label_ends.old attributes.old attribute_count.old attribute_starts.old attribute_ends.old held_indices.now held_labels.now) }
+) -> Result<Hold, Refusal>
+    ensures { hold_opened result (hold_held store.new last_known_shingle.new reference_count.new location.new index_starts.new index_ends.new labels.new label_attributes.new label_count.new label_starts.new label_ends.new attributes.new attribute_count.new attribute_starts.new attribute_ends.new held_indices.now held_labels.now) ≡ hold_open_spec 0 shape width class_text.now (hold_held store.old last_known_shingle.old reference_count.old location.old index_starts.old index_ends.old labels.old label_attributes.old label_count.old label_starts.old label_ends.old attributes.old attribute_count.old attribute_starts.old attribute_ends.old held_indices.now held_labels.now) }
 {
-    let d = open_decision(shape, width, held_indices.len(), held_labels.len());
-    match d {
-        Decision::Refuse(why) => {
-            let none = no_hold();
-            HoldDoneResult {
-                hold: none,
-                answer: Done::Refused(why),
-            }
-        }
-        Decision::Go => {
-            let opened = open(
-                shape,
-                store,
-                last_known_shingle,
-                reference_count,
-                location,
-                index_starts,
-                index_ends,
-                labels,
-                label_attributes,
-                label_count,
-                label_starts,
-                label_ends,
-                attributes,
-                attribute_count,
-                attribute_starts,
-                attribute_ends,
-                class_text,
-            );
-            opened_hold(opened, width)
-        }
-    }
+    open_decision(shape, width, held_indices.len(), held_labels.len())?;
+    let opened = open(
+        shape,
+        store,
+        last_known_shingle,
+        reference_count,
+        location,
+        index_starts,
+        index_ends,
+        labels,
+        label_attributes,
+        label_count,
+        label_starts,
+        label_ends,
+        attributes,
+        attribute_count,
+        attribute_starts,
+        attribute_ends,
+        class_text,
+    )?;
+    Ok(Hold {
+        store: opened,
+        width,
+        held: 0,
+    })
 }

@@ -4,18 +4,19 @@ use native.Mathlib.Omega.{arith}
 use native.Mathlib.Decide.{dec_lt}
 use native.Mathlib.Numerals.{add-one}
 use mathlib.Core.List.{List}
-use mathlib.Core.Bool.{true, false, ◌&&◌, or-true, or-false}
+use mathlib.Core.Bool.{true, ◌&&◌, or-true, or-false}
+use Rattle.std.specs.Prelude.{Some, None}
 use mathlib.Core.Path.{◌≡◌, refl, sym, ◌∙◌, ap}
 use lib.ListN.{length, get_or}
-use Rattle.terms.specs.Below.{one, both, fails, every_at}
-use borrow.Author.Tests.{leb-true}
+use Rattle.std.proofs.lemmas.Option.{none-some}
+use Rattle.terms.specs.Below.{one, both, fails}
+use borrow.Author.Tests.{leb-true, le-leb}
 use lib.Dec.{leb}
-use Rattle.interval_store_manager.specs.Intervals.{inside, holders, is_free, in_bounds, none_shared}
+use Rattle.interval_store_manager.specs.Intervals.{inside, holders, is_free, in_bounds}
 use Rattle.interval_store_manager.specs.IntervalLaws.{inside_yes, inside_left, inside_right}
-use Rattle.interval_store_manager.specs.StackLaws.{Bounded, bounded_make, sizes, sizes_none, sizes_more, sizes_grow, free_number_lem}
-use Rattle.interval_store_manager.specs.Sound.{free_le_capacity}
+use Rattle.interval_store_manager.specs.StackLaws.{Bounded, bounded_make, sizes, sizes_none, sizes_more, sizes_grow}
 use Rattle.interval_store_manager.specs.FreeLaws.{free_more, empty_stack}
-use Rattle.interval_store_manager.specs.Marks.{filled, Unmarked, Marks, Swept}
+use Rattle.interval_store_manager.specs.Marks.{filled, Unmarked, Marks, sizes_checked, Swept}
 use Rattle.interval_store_manager.specs.MarkLaws.{filled_in, filled_below, filled_above}
 
 pub record Sweeping (capacity n : ℕ) (starts ends old marks : List ℕ) (total i : ℕ) : Type 0 where
@@ -81,31 +82,25 @@ module _ (c n : ℕ) (ss es old marks : List ℕ) (total i : ℕ) (s : Sweeping 
       }
 
 -- what each way out shows
-pub stops : (c n : ℕ) (ss es marks : List ℕ) → (in_bounds c n ss es ≡ true → none_shared c n ss es ≡ true → ⊥) → Swept c n ss es marks false 0
+pub stops : (c n : ℕ) (ss es marks : List ℕ) → (in_bounds c n ss es ≡ true → sizes c n ss es ≤ c → ⊥) → Swept c n ss es marks None
+unfolding sizes_checked
 stops c n ss es marks h =
     record {
-      bounds = λ e. no e;
-      total_is = λ e. no e;
-      marked = λ e. no e;
-      not_ok = λ e. fails (in_bounds c n ss es && none_shared c n ss es) (λ f. let p = both (in_bounds c n ss es) (none_shared c n ss es) f in h p.0 p.1);
+      is = rw (fails (in_bounds c n ss es && leb (sizes c n ss es) c) (λ f. let p = both (in_bounds c n ss es) (leb (sizes c n ss es) c) f in h p.0 (leb-true (sizes c n ss es) c p.1)));
+      marked = λ t e. absurd (none-some t e);
     }
-  where
-    no : {A : Type 0} → false ≡ true → A
-    no e = absurd (let z : ◌≡◌ {A = ℕ} 0 1 = cc in omega arith)
 
-pub finished : (c n : ℕ) (ss es old marks : List ℕ) (total i : ℕ) → Sweeping c n ss es old marks total i → n ≤ i → Swept c n ss es marks true total
+pub finished : (c n : ℕ) (ss es old marks : List ℕ) (total i : ℕ) → Sweeping c n ss es old marks total i → n ≤ i → Swept c n ss es marks (Some total)
+unfolding sizes_checked
 finished c n ss es old marks total i s h =
     let e : i ≡ n = omega (arith, s.at) in
+    let sum : total ≡ sizes c n ss es = rw e at s.total_is in
+    let fits : sizes c n ss es ≤ c = omega (arith, s.total_le) in
     record {
-      bounds = λ t. bounded_make c n ss es (rw e at s.bounds);
-      total_is = λ t. rw e at s.total_is;
-      marked = λ t. rw e at s.marked;
-      not_ok = λ t. absurd (let z : ◌≡◌ {A = ℕ} 0 1 = cc in omega arith);
+      is = rw (bounded_make c n ss es (rw e at s.bounds), le-leb (sizes c n ss es) c fits, sum);
+      marked = λ t f. rw e at s.marked;
     }
 
--- sizes past the capacity: two intervals share an index
-pub too_many : (c n i : ℕ) (ss es : List ℕ) → i ≤ n → c < sizes c i ss es → none_shared c n ss es ≡ true → ⊥
-unfolding none_shared
-too_many c n i ss es h g e =
-    let once : (k : ℕ) → k < c → holders n ss es k ≤ 1 = λ k l. leb-true (holders n ss es k) 1 (every_at c (λ j. leb (holders n ss es j) 1) e k l) in
-    omega (arith, sizes_grow c i n ss es h, free_number_lem c n ss es once, free_le_capacity c n ss es)
+-- sizes that pass the capacity at i pass it at n
+pub too_many : (c n i : ℕ) (ss es : List ℕ) → i ≤ n → c < sizes c i ss es → sizes c n ss es ≤ c → ⊥
+too_many c n i ss es h g e = omega (arith, sizes_grow c i n ss es h)

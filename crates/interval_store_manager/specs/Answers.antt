@@ -1,17 +1,9 @@
 -- What the manager's answers stand for: document 01's numbers and values.
-use Rattle.std.specs.Prelude.{ℕ, Bool, List}
+use Rattle.std.specs.Prelude.{ℕ, Bool, List, Result, Ok, Err}
+use Rattle.terms.specs.declared.Refusal.{Refusal}
 use Rattle.terms.specs.Refusals.{number}
 use Rattle.interval_store_manager.specs.declared.IntervalStoreManager.{IntervalStoreManager}
-use Rattle.interval_store_manager.specs.declared.Opened.{Opened}
-use Rattle.interval_store_manager.specs.declared.Opened.TheVariants as at_opening
-use Rattle.interval_store_manager.specs.declared.Changed.{Changed}
-use Rattle.interval_store_manager.specs.declared.Changed.TheVariants as at_change
-use Rattle.interval_store_manager.specs.declared.Got.{Got}
-use Rattle.interval_store_manager.specs.declared.Got.TheVariants as at_get
-use Rattle.interval_store_manager.specs.declared.Number.{Number}
-use Rattle.interval_store_manager.specs.declared.Number.TheVariants as at_number
-use Rattle.interval_store_manager.specs.declared.Emptiness.{Emptiness}
-use Rattle.interval_store_manager.specs.declared.Emptiness.TheVariants as at_emptiness
+use Rattle.interval_store_manager.specs.declared.Given.{Given}
 
 pub data Answer : Type 0 where
   -- an accepted opening, with the manager
@@ -27,25 +19,25 @@ pub data Answer : Type 0 where
   -- a refusal, by its number
   refused : ℕ → Answer
 
-abbrev pub opened_means : Opened → Answer
-opened_means (at_opening.Manager m) = opened m
-opened_means (at_opening.Refused r) = refused (number r)
+abbrev pub opened_means : Result IntervalStoreManager Refusal → Answer
+opened_means (Ok m) = opened m
+opened_means (Err r) = refused (number r)
 
-abbrev pub changed_means : Changed → Answer
-changed_means at_change.Done = done
-changed_means (at_change.Refused r) = refused (number r)
+abbrev pub changed_means : Result Unit Refusal → Answer
+changed_means (Ok _) = done
+changed_means (Err r) = refused (number r)
 
-abbrev pub got_means : Got → Answer
-got_means (at_get.Given g) = given g.index g.free
-got_means (at_get.Refused r) = refused (number r)
+abbrev pub got_means : Result Given Refusal → Answer
+got_means (Ok g) = given g.index g.free
+got_means (Err r) = refused (number r)
 
-abbrev pub number_means : Number → Answer
-number_means (at_number.Is n) = holds n
-number_means (at_number.Refused r) = refused (number r)
+abbrev pub number_means : Result ℕ Refusal → Answer
+number_means (Ok n) = holds n
+number_means (Err r) = refused (number r)
 
-abbrev pub emptiness_means : Emptiness → Answer
-emptiness_means (at_emptiness.Empty b) = says b
-emptiness_means (at_emptiness.Refused r) = refused (number r)
+abbrev pub emptiness_means : Result Bool Refusal → Answer
+emptiness_means (Ok b) = says b
+emptiness_means (Err r) = refused (number r)
 
 -- an answer with the two lists after the call
 pub record Opening : Type 0 where

@@ -1,10 +1,9 @@
 -- Document 01, 'Interval manager': one definition for each call, in the Rust's names. A decision comes first, the refusals
 -- in 01's order, then what is carried out. A refused call leaves manager and lists as they were.
-use Rattle.std.specs.Prelude.{ℕ, ◌+◌, ◌-◌, List, cond, ◌&&◌, ◌||◌, set, leb, ltb, eqb}
+use Rattle.std.specs.Prelude.{ℕ, ◌+◌, ◌-◌, List, Result, Ok, Err, cond, ◌&&◌, ◌||◌, set, leb, ltb, eqb}
+use Rattle.terms.specs.declared.Refusal.{Refusal}
 use Rattle.terms.specs.Refusals.{number}
 use Rattle.interval_store_manager.specs.declared.IntervalStoreManager.{IntervalStoreManager}
-use Rattle.interval_store_manager.specs.declared.Decision.{Decision}
-use Rattle.interval_store_manager.specs.declared.Decision.TheVariants.{Go, Refuse}
 use Rattle.interval_store_manager.specs.Intervals.{at_top, is_free, free_number}
 use Rattle.interval_store_manager.specs.WellFormed.{capacity_allowed, lent_enough, well_formed}
 use Rattle.interval_store_manager.specs.Answers.{Answer, opened, done, given, holds, says, refused, Opening, opening, Outcome, outcome}
@@ -21,9 +20,9 @@ pub data Decided : Type 0 where
   go : Decided
   refuse : ℕ → Decided
 
-abbrev pub decision_means : Decision → Decided
-decision_means Go = go
-decision_means (Refuse r) = refuse (number r)
+abbrev pub decision_means : Result Unit Refusal → Decided
+decision_means (Ok _) = go
+decision_means (Err r) = refuse (number r)
 
 -- a decision carried out
 abbrev pub carried_out : Decided → IntervalStoreManager → List ℕ → List ℕ → Outcome → Outcome

@@ -1,8 +1,8 @@
 -- What the well-formedness check marks and adds up.
-use Rattle.std.specs.Prelude.{ℕ, List, Bool, true, false, cond, ◌&&◌, ◌≡◌, get_or, leb, ltb}
+use Rattle.std.specs.Prelude.{ℕ, List, true, cond, ◌&&◌, ◌≡◌, Option, Some, None, get_or, leb, ltb}
 use Rattle.terms.specs.Below.{one}
 use Rattle.interval_store_manager.specs.declared.IntervalStoreManager.{IntervalStoreManager}
-use Rattle.interval_store_manager.specs.Intervals.{is_free, free_number, in_bounds, none_shared}
+use Rattle.interval_store_manager.specs.Intervals.{is_free, free_number, in_bounds}
 use Rattle.interval_store_manager.specs.WellFormed.{well_formed}
 use Rattle.interval_store_manager.specs.StackLaws.{sizes}
 
@@ -18,20 +18,21 @@ Unmarked marks = (k : ℕ) → get_or marks k 0 ≡ 0
 abbrev pub Marks : ℕ → List ℕ → List ℕ → List ℕ → Type 0
 Marks n starts ends marks = (k : ℕ) → get_or marks k 0 ≡ one (is_free n starts ends k)
 
+-- what a pass over the first n intervals adds up: their sizes, where all lie in bounds and the sizes do not pass the capacity
+unfoldable pub sizes_checked : ℕ → ℕ → List ℕ → List ℕ → Option ℕ
+sizes_checked capacity n starts ends =
+    cond (in_bounds capacity n starts ends && leb (sizes capacity n starts ends) capacity) (Some (sizes capacity n starts ends)) None
+
 -- after a pass over the first n intervals
-pub record Swept (capacity n : ℕ) (starts ends marks : List ℕ) (ok : Bool) (total : ℕ) : Type 0 where
-  pub bounds : ok ≡ true → in_bounds capacity n starts ends ≡ true
-  pub total_is : ok ≡ true → total ≡ sizes capacity n starts ends
-  pub marked : ok ≡ true → Marks n starts ends marks
-  pub not_ok : ok ≡ false → (in_bounds capacity n starts ends && none_shared capacity n starts ends) ≡ false
+pub record Swept (capacity n : ℕ) (starts ends marks : List ℕ) (total : Option ℕ) : Type 0 where
+  pub is : total ≡ sizes_checked capacity n starts ends
+  pub marked : (t : ℕ) → total ≡ Some t → Marks n starts ends marks
+
+-- what the whole check answers: how many indices are free, where the manager is well-formed
+abbrev pub free_checked : IntervalStoreManager → List ℕ → List ℕ → Option ℕ
+free_checked m starts ends = cond (well_formed m starts ends) (Some (free_number m.capacity m.last_in_use starts ends)) None
 
 -- after the whole check
-pub record Marked (m : IntervalStoreManager) (starts ends marks : List ℕ) (ok : Bool) (free : ℕ) : Type 0 where
-  pub is : ok ≡ well_formed m starts ends
-  pub free_is : ok ≡ true → free ≡ free_number m.capacity m.last_in_use starts ends
-  pub marked : ok ≡ true → Marks m.last_in_use starts ends marks
-
--- the same, where the marks are not wanted
-pub record WellFormed (m : IntervalStoreManager) (starts ends : List ℕ) (ok : Bool) (free : ℕ) : Type 0 where
-  pub is : ok ≡ well_formed m starts ends
-  pub free_is : ok ≡ true → free ≡ free_number m.capacity m.last_in_use starts ends
+pub record Marked (m : IntervalStoreManager) (starts ends marks : List ℕ) (free : Option ℕ) : Type 0 where
+  pub is : free ≡ free_checked m starts ends
+  pub marked : well_formed m starts ends ≡ true → Marks m.last_in_use starts ends marks

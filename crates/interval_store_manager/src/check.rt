@@ -1,46 +1,29 @@
 // Well-formedness of a manager in one linear pass: every free index is marked, and the marks are as many as the intervals'
 // sizes add up to exactly where no two intervals share an index.
-ghost use Rattle.std.specs.Prelude.{◌≡◌, ℕ, ◌≤◌, ◌<◌, length, get_or};
+ghost use Rattle.std.specs.Prelude.{true, ◌≡◌, ℕ, ◌≤◌, ◌<◌, length, get_or};
 ghost use Rattle.terms.specs.Below.{sum_below};
-ghost use Rattle.interval_store_manager.specs.WellFormed.{capacity_allowed, lent_enough};
-ghost use Rattle.interval_store_manager.specs.Marks.{filled, Unmarked, Swept, Marked, WellFormed};
+ghost use Rattle.interval_store_manager.specs.WellFormed.{capacity_allowed, lent_enough, well_formed};
+ghost use Rattle.interval_store_manager.specs.Marks.{filled, Unmarked, Swept, free_checked, Marked};
 
 use crate::IntervalStoreManager;
 
-// What the check finds: whether the manager is well-formed, and then how many indices are free.
-#[derive(Clone, Copy)]
-pub struct Checked {
-    pub ok: bool,
-    pub free: usize,
-}
-
-// Whether the intervals lie in bounds and their sizes do not pass the capacity, and what the sizes add up to.
-#[derive(Clone, Copy)]
-struct Sizes {
-    ok: bool,
-    total: usize,
-}
-
+#[tactic(auto, unfolding(crate::specs::WellFormed::capacity_allowed))]
 pub fn capacity_allowed(capacity: usize) -> bool
     ensures { result ≡ capacity_allowed capacity }
 {
-    if capacity < IntervalStoreManager::LEAST_CAPACITY {
-        return false;
-    }
-    capacity <= IntervalStoreManager::LARGEST_CAPACITY
+    IntervalStoreManager::LEAST_CAPACITY <= capacity
+        && capacity <= IntervalStoreManager::LARGEST_CAPACITY
 }
 
 // Whether both slices have at least n entries.
+#[tactic(auto, unfolding(crate::specs::WellFormed::lent_enough))]
 pub fn lent_enough(n: usize, starts: &[u16], ends: &[u16]) -> bool
     ensures { result ≡ lent_enough n starts.now ends.now }
 {
-    if starts.len() < n {
-        return false;
-    }
-    n <= ends.len()
+    n <= starts.len() && n <= ends.len()
 }
 
-// Marks the indices from `from` up to `to`. A single one is marked by itself: the loop is compiled to a call, and a stack of many
+// Marks the indices from `from` up to `to`. A single one is marked by itself: the fill is compiled to a call, and a stack of many
 // intervals has mostly such.
 fn fill_ones(marks: &mut [u8], from: usize, to: usize)
     requires { (from ≤ to) × (to ≤ length marks.old) }
@@ -50,11 +33,7 @@ fn fill_ones(marks: &mut [u8], from: usize, to: usize)
         marks[from] = 1;
         return;
     }
-    let mut i = from;
-    while i < to {
-        marks[i] = 1;
-        i += 1;
-    }
+    marks[from..to].fill(1);
 }
 
 // How many indices below the capacity are marked, each by a 1: so sixteen bits have room, and eight marks are added up at once.
@@ -63,10 +42,8 @@ fn count_ones(marks: &[u8], capacity: usize) -> usize
     ensures { result ≡ sum_below capacity (λ k. get_or marks.now k 0) }
 {
     let mut total: u16 = 0;
-    let mut i = 0;
-    while i < capacity {
+    for i in 0..capacity {
         total += marks[i] as u16;
-        i += 1;
     }
     total as usize
 }
@@ -82,76 +59,69 @@ fn marked_number(marks: &[u8], capacity: usize, n: usize, total: usize) -> usize
     count_ones(marks, capacity)
 }
 
-// Marks every index that the first n intervals hold, and stops where an interval is out of bounds or the sizes pass the
-// capacity: then two intervals share an index, and without the stop the pass would not be linear.
+// Marks every index that the first n intervals hold, and tells what their sizes add up to. It stops where an interval is out of
+// bounds or the sizes pass the capacity: then two intervals share an index, and without the stop the pass would not be linear.
 fn mark_intervals(
     capacity: usize,
     n: usize,
     starts: &[u16],
     ends: &[u16],
     marks: &mut [u8],
-) -> Sizes
+) -> Option<usize>
     requires { (capacity ≤ length marks.old) × ((capacity ≤ 1024) × ((n ≤ length starts.now) × ((n ≤ length ends.now) × Unmarked marks.old))) }
-    ensures { Swept capacity n starts.now ends.now marks.new result.ok result.total }
+    ensures { Swept capacity n starts.now ends.now marks.new result }
 {
     let mut total: usize = 0;
-    let mut i = 0;
-    while i < n {
+    for i in 0..n {
         let start = starts[i] as usize;
         let end = ends[i] as usize;
         if end < start {
-            return Sizes {
-                ok: false,
-                total: 0,
-            };
+            return None;
         }
         if capacity <= end {
-            return Sizes {
-                ok: false,
-                total: 0,
-            };
+            return None;
         }
         total += end - start + 1;
         if capacity < total {
-            return Sizes {
-                ok: false,
-                total: 0,
-            };
+            return None;
         }
         fill_ones(marks, start, end + 1);
-        i += 1;
     }
-    Sizes { ok: true, total }
+    Some(total)
 }
 
-// Checks the manager and marks its free indices, in a table that has an entry for each of them.
-pub fn mark_free(m: IntervalStoreManager, starts: &[u16], ends: &[u16], marks: &mut [u8]) -> Checked
+// How many indices are free, where the manager is well-formed. They are marked in a table that has an entry for each of them.
+pub fn mark_free(
+    m: IntervalStoreManager,
+    starts: &[u16],
+    ends: &[u16],
+    marks: &mut [u8],
+) -> Option<usize>
     requires { ((m.capacity ≤ 1024 → m.capacity ≤ length marks.old)) × Unmarked marks.old }
-    ensures { Marked m starts.now ends.now marks.new result.ok result.free }
+    ensures { Marked m starts.now ends.now marks.new result }
 {
     let capacity = m.capacity;
     let n = m.last_in_use;
-    if capacity_allowed(capacity) {
-        if lent_enough(capacity, starts, ends) {
-            if lent_enough(n, starts, ends) {
-                let sizes = mark_intervals(capacity, n, starts, ends, marks);
-                let ok = sizes.ok;
-                let total = sizes.total;
-                if ok {
-                    let free = marked_number(marks, capacity, n, total);
-                    return Checked {
-                        ok: free == total,
-                        free,
-                    };
-                }
-            }
-        }
+    if !capacity_allowed(capacity) {
+        return None;
     }
-    Checked { ok: false, free: 0 }
+    if !lent_enough(capacity, starts, ends) {
+        return None;
+    }
+    if !lent_enough(n, starts, ends) {
+        return None;
+    }
+    let total = mark_intervals(capacity, n, starts, ends, marks)?;
+    let free = marked_number(marks, capacity, n, total);
+    if free == total {
+        return Some(free);
+    }
+    None
 }
 
-pub fn well_formed(m: IntervalStoreManager, starts: &[u16], ends: &[u16]) -> Checked
-    ensures { WellFormed m starts.now ends.now result.ok result.free }
+// How many indices are free, where the manager is well-formed.
+pub fn well_formed(m: IntervalStoreManager, starts: &[u16], ends: &[u16]) -> Option<usize>
+    ensures { result ≡ free_checked m starts.now ends.now }
 {
     let mut marks = [0u8; 1024];
     mark_free(m, starts, ends, &mut marks[..])

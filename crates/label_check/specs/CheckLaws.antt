@@ -30,6 +30,7 @@ pub record SlotsLent (capacity free : ℕ) (attributes counts marks sums : List 
 pub record LabelsSwept (classes : List ℕ) (capacity : ℕ) (labels slots counts attributes marks sums : List ℕ) (ok : Bool) : Type 0 where
   pub is : ok ≡ every_below capacity (λ i. label_passes classes capacity labels slots counts attributes marks i)
   pub summed : ok ≡ true → Summed capacity slots counts sums
+  pub fit : ok ≡ true → (i : ℕ) → get_or counts i 0 ≤ 65535
 
 -- the sums below 0, and with one label more
 pub summed_none : (slots counts sums : List ℕ) → ((s : ℕ) → get_or sums s 0 ≡ 0) → Summed 0 slots counts sums

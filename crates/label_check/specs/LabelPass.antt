@@ -43,6 +43,7 @@ pub record ShareReady (capacity : ℕ) (labels slots counts attributes sums : Li
 pub record Shared (classes : List ℕ) (capacity : ℕ) (labels slots counts attributes sums : List ℕ) (ok : Bool) : Type 0 where
   pub is : ok ≡ every_below capacity (λ i. label_classed classes labels slots counts attributes i)
   pub summed : Summed capacity slots counts sums
+  pub fit : (i : ℕ) → get_or counts i 0 ≤ 65535
 
 module _ (classes : List ℕ) (c : ℕ) (labels slots counts attributes marks : List ℕ) where
   abbrev bounds : Bool
@@ -86,11 +87,12 @@ module _ (classes : List ℕ) (c : ℕ) (labels slots counts attributes marks : 
 
   pub swept_bounded : (sums : List ℕ) (ok : Bool) → bounds ≡ true → Shared classes c labels slots counts attributes sums ok → LabelsSwept classes c labels slots counts attributes marks sums ok
   swept_bounded sums ok e s =
-      record { is = s.is ∙ sym (passes_are ∙ rw e); summed = λ t. s.summed }
+      record { is = s.is ∙ sym (passes_are ∙ rw e); summed = λ t. s.summed; fit = λ t. s.fit }
 
   pub swept_not : (sums : List ℕ) → bounds ≡ false → LabelsSwept classes c labels slots counts attributes marks sums false
   swept_not sums e =
       record {
         is = sym (passes_are ∙ rw e);
         summed = λ t. absurd (let q : ◌≡◌ {A = ℕ} 0 1 = cc in omega arith);
+        fit = λ t. absurd (let q : ◌≡◌ {A = ℕ} 0 1 = cc in omega arith);
       }

@@ -5,7 +5,7 @@ ghost use Rattle.labels.specs.Classes.{class_of};
 ghost use Rattle.label_check.specs.CheckLaws.{LabelsLent, LabelsSwept};
 ghost use Rattle.label_check.specs.LabelPass.{label_bounded, ShareReady, Shared};
 
-use labels::class_of;
+use labels::{LabelTables, class_of};
 
 // Whether the mark fits the count and, of a live label, the code is one of the table's and the slot is below the capacity.
 // Without a branch, so that the pass over the labels is compiled to vector instructions.
@@ -31,8 +31,7 @@ fn labels_bounded(
 {
     let limit = capacity as u16;
     let mut ok = true;
-    let mut i = 0;
-    while i < capacity {
+    for i in 0..capacity {
         let well = label_bounded(
             limit,
             labels[i],
@@ -41,7 +40,6 @@ fn labels_bounded(
             marks[i],
         );
         ok = ok & well;
-        i += 1;
     }
     ok
 }
@@ -80,8 +78,7 @@ fn labels_shared(
     ensures { Shared classes.now capacity labels.now label_attributes.now label_count.now attributes.now sums.new result }
 {
     let mut ok = true;
-    let mut i = 0;
-    while i < capacity {
+    for i in 0..capacity {
         let well = share_label(
             classes,
             attributes,
@@ -91,7 +88,6 @@ fn labels_shared(
             label_count[i],
         );
         ok = ok & well;
-        i += 1;
     }
     ok
 }
@@ -100,24 +96,27 @@ fn labels_shared(
 pub fn labels_pass(
     classes: &[u8; 24],
     capacity: usize,
-    labels: &[u8],
-    label_attributes: &[u16],
-    label_count: &[u16],
-    attributes: &[u8],
+    tables: LabelTables,
     marks: &[u8],
     sums: &mut [u32],
 ) -> bool
-    requires { LabelsLent capacity labels.now label_attributes.now label_count.now attributes.now marks.now × ((length sums.old ≡ 1024) × ((s : ℕ) → get_or sums.old s 0 ≡ 0)) }
-    ensures { LabelsSwept classes.now capacity labels.now label_attributes.now label_count.now attributes.now marks.now sums.new result }
+    requires { LabelsLent capacity tables.labels.now tables.label_attributes.now tables.label_count.now tables.attributes.now marks.now × ((length sums.old ≡ 1024) × ((s : ℕ) → get_or sums.old s 0 ≡ 0)) }
+    ensures { LabelsSwept classes.now capacity tables.entry.labels.now tables.entry.label_attributes.now tables.entry.label_count.now tables.entry.attributes.now marks.now sums.new result }
 {
-    if labels_bounded(capacity, labels, label_attributes, label_count, marks) {
+    if labels_bounded(
+        capacity,
+        tables.labels,
+        tables.label_attributes,
+        tables.label_count,
+        marks,
+    ) {
         return labels_shared(
             classes,
             capacity,
-            labels,
-            label_attributes,
-            label_count,
-            attributes,
+            tables.labels,
+            tables.label_attributes,
+            tables.label_count,
+            tables.attributes,
             sums,
         );
     }

@@ -2,48 +2,28 @@
 // the sum of its slot; each slot's count is held against its sum, and the class of each live slot is seen once.
 #![tactic(auto)]
 
-ghost use Rattle.std.specs.Prelude.{true, ◌≡◌};
-ghost use Rattle.labels.specs.Labels.{tables_lent, labels_well, labels_ok};
-ghost use Rattle.labels.specs.Forms.{held, FreeOf};
+ghost use Rattle.std.specs.Prelude.{◌≡◌};
+ghost use Rattle.labels.specs.Labels.{tables_lent};
+ghost use Rattle.labels.specs.Lent.{labels_lent};
+ghost use Rattle.label_check.specs.Checked.{half_checked, labels_checked};
 
 mod label_pass;
 mod slot_pass;
 
 use interval_store_manager::mark_free;
 use label_pass::labels_pass;
-use labels::{LabelManagers, LabelsFree};
+use labels::{LabelManagers, LabelTables, LabelsFree};
 use slot_pass::slots_pass;
 
-// What the check finds: whether the label half is well-formed, and then, with labels on, how many label indices and slots are free.
-#[derive(Clone, Copy)]
-pub struct LabelsChecked {
-    pub ok: bool,
-    pub free: LabelsFree,
-}
-
-fn tables_lent(
-    capacity: usize,
-    labels: &[u8],
-    label_attributes: &[u16],
-    label_count: &[u16],
-    attributes: &[u8],
-    attribute_count: &[u32],
-) -> bool
-    ensures { result ≡ tables_lent capacity labels.now label_attributes.now label_count.now attributes.now attribute_count.now }
+#[tactic(auto, unfolding(labels::specs::Labels::tables_lent))]
+fn tables_lent(capacity: usize, tables: LabelTables) -> bool
+    ensures { result ≡ tables_lent capacity tables.entry.labels.now tables.entry.label_attributes.now tables.entry.label_count.now tables.entry.attributes.now tables.entry.attribute_count.now }
 {
-    if labels.len() < capacity {
-        return false;
-    }
-    if label_attributes.len() < capacity {
-        return false;
-    }
-    if label_count.len() < capacity {
-        return false;
-    }
-    if attributes.len() < capacity {
-        return false;
-    }
-    capacity <= attribute_count.len()
+    capacity <= tables.labels.len()
+        && capacity <= tables.label_attributes.len()
+        && capacity <= tables.label_count.len()
+        && capacity <= tables.attributes.len()
+        && capacity <= tables.attribute_count.len()
 }
 
 // The label half with labels on.
@@ -51,135 +31,58 @@ fn label_half_well_formed(
     classes: &[u8; 24],
     capacity: usize,
     managers: LabelManagers,
-    labels: &[u8],
-    label_attributes: &[u16],
-    label_count: &[u16],
-    label_starts: &[u16],
-    label_ends: &[u16],
-    attributes: &[u8],
-    attribute_count: &[u32],
-    attribute_starts: &[u16],
-    attribute_ends: &[u16],
-) -> LabelsChecked
-    ensures { (result.ok ≡ labels_well classes.now capacity (held managers labels.now label_attributes.now label_count.now label_starts.now label_ends.now attributes.now attribute_count.now attribute_starts.now attribute_ends.now)) × ((result.ok ≡ true → FreeOf result.free (held managers labels.now label_attributes.now label_count.now label_starts.now label_ends.now attributes.now attribute_count.now attribute_starts.now attribute_ends.now))) }
+    tables: LabelTables,
+) -> Option<LabelsFree>
+    ensures { result ≡ half_checked classes.now capacity (labels_lent managers tables.entry) }
 {
-    let label_manager = managers.label_manager;
-    let attribute_manager = managers.attribute_manager;
-    if label_manager.capacity != capacity {
-        return LabelsChecked {
-            ok: false,
-            free: LabelsFree {
-                labels: 0,
-                slots: 0,
-            },
-        };
+    if managers.label_manager.capacity != capacity {
+        return None;
     }
-    if attribute_manager.capacity != capacity {
-        return LabelsChecked {
-            ok: false,
-            free: LabelsFree {
-                labels: 0,
-                slots: 0,
-            },
-        };
+    if managers.attribute_manager.capacity != capacity {
+        return None;
     }
-    if tables_lent(
-        capacity,
-        labels,
-        label_attributes,
-        label_count,
-        attributes,
-        attribute_count,
-    ) {
-        let mut label_marks = [0u8; 1024];
-        let label_check = mark_free(label_manager, label_starts, label_ends, &mut label_marks);
-        let mut slot_marks = [0u8; 1024];
-        let slot_check = mark_free(
-            attribute_manager,
-            attribute_starts,
-            attribute_ends,
-            &mut slot_marks,
-        );
-        if label_check.ok {
-            if slot_check.ok {
-                let mut sums = [0u32; 1024];
-                if labels_pass(
-                    classes,
-                    capacity,
-                    labels,
-                    label_attributes,
-                    label_count,
-                    attributes,
-                    &label_marks,
-                    &mut sums,
-                ) {
-                    let ok = slots_pass(
-                        capacity,
-                        slot_check.free,
-                        attributes,
-                        attribute_count,
-                        &slot_marks,
-                        &sums,
-                    );
-                    return LabelsChecked {
-                        ok,
-                        free: LabelsFree {
-                            labels: label_check.free,
-                            slots: slot_check.free,
-                        },
-                    };
-                }
-            }
-        }
+    if !tables_lent(capacity, tables) {
+        return None;
     }
-    LabelsChecked {
-        ok: false,
-        free: LabelsFree {
-            labels: 0,
-            slots: 0,
-        },
+    let mut label_marks = [0u8; 1024];
+    let labels = mark_free(
+        managers.label_manager,
+        tables.label_starts,
+        tables.label_ends,
+        &mut label_marks,
+    )?;
+    let mut slot_marks = [0u8; 1024];
+    let slots = mark_free(
+        managers.attribute_manager,
+        tables.attribute_starts,
+        tables.attribute_ends,
+        &mut slot_marks,
+    )?;
+    let mut sums = [0u32; 1024];
+    if !labels_pass(classes, capacity, tables, &label_marks, &mut sums) {
+        return None;
     }
+    if !slots_pass(capacity, slots, tables, &slot_marks, &sums) {
+        return None;
+    }
+    Some(LabelsFree { labels, slots })
 }
 
-// Whether the label half is well-formed; with labels off nothing of it is looked at.
+// How many label indices and slots are free, where the label half is well-formed; with labels off nothing of it is looked at.
 pub fn labels_well_formed(
     store_labels: bool,
     classes: &[u8; 24],
     capacity: usize,
     managers: LabelManagers,
-    labels: &[u8],
-    label_attributes: &[u16],
-    label_count: &[u16],
-    label_starts: &[u16],
-    label_ends: &[u16],
-    attributes: &[u8],
-    attribute_count: &[u32],
-    attribute_starts: &[u16],
-    attribute_ends: &[u16],
-) -> LabelsChecked
-    ensures { (result.ok ≡ labels_ok store_labels classes.now capacity (held managers labels.now label_attributes.now label_count.now label_starts.now label_ends.now attributes.now attribute_count.now attribute_starts.now attribute_ends.now)) × ((result.ok ≡ true → store_labels ≡ true → FreeOf result.free (held managers labels.now label_attributes.now label_count.now label_starts.now label_ends.now attributes.now attribute_count.now attribute_starts.now attribute_ends.now))) }
+    tables: LabelTables,
+) -> Option<LabelsFree>
+    ensures { result ≡ labels_checked store_labels classes.now capacity (labels_lent managers tables.entry) }
 {
     if store_labels {
-        return label_half_well_formed(
-            classes,
-            capacity,
-            managers,
-            labels,
-            label_attributes,
-            label_count,
-            label_starts,
-            label_ends,
-            attributes,
-            attribute_count,
-            attribute_starts,
-            attribute_ends,
-        );
+        return label_half_well_formed(classes, capacity, managers, tables);
     }
-    LabelsChecked {
-        ok: true,
-        free: LabelsFree {
-            labels: 0,
-            slots: 0,
-        },
-    }
+    Some(LabelsFree {
+        labels: 0,
+        slots: 0,
+    })
 }

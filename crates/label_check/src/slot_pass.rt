@@ -6,6 +6,8 @@ ghost use Rattle.label_check.specs.Checks.{slot_passes, slot_fits};
 ghost use Rattle.label_check.specs.CheckLaws.{SlotsLent};
 ghost use Rattle.label_check.specs.SlotPass.{slots_live};
 
+use labels::LabelTables;
+
 // Without a branch, so that the pass over the slots is compiled to vector instructions.
 fn slot_passes(count: u32, mark: u8, sum: u32) -> bool
     ensures { result ≡ (eqb count sum && eqb mark (one (eqb count 0))) }
@@ -20,11 +22,9 @@ fn slots_summed(capacity: usize, attribute_count: &[u32], marks: &[u8], sums: &[
     ensures { result ≡ every_below capacity (λ s. slot_passes attribute_count.now marks.now sums.now s) }
 {
     let mut ok = true;
-    let mut s = 0;
-    while s < capacity {
+    for s in 0..capacity {
         let well = slot_passes(attribute_count[s], marks[s], sums[s]);
         ok = ok & well;
-        s += 1;
     }
     ok
 }
@@ -51,6 +51,7 @@ fn classes_differ(capacity: usize, live: usize, attributes: &[u8], attribute_cou
     let mut seen = [false; 256];
     let mut met = false;
     let mut found: usize = 0;
+    // Kept: the loop counts the live slots that it meets, and ends with the last; a `for` over the slots would need a `break` beside it.
     let mut s = 0;
     while found < live {
         let count = attribute_count[s];
@@ -66,16 +67,20 @@ fn classes_differ(capacity: usize, live: usize, attributes: &[u8], attribute_cou
 pub fn slots_pass(
     capacity: usize,
     free: usize,
-    attributes: &[u8],
-    attribute_count: &[u32],
+    tables: LabelTables,
     marks: &[u8],
     sums: &[u32],
 ) -> bool
-    requires { SlotsLent capacity free attributes.now attribute_count.now marks.now sums.now }
-    ensures { result ≡ every_below capacity (λ s. slot_fits attributes.now attribute_count.now marks.now sums.now s) }
+    requires { SlotsLent capacity free tables.attributes.now tables.attribute_count.now marks.now sums.now }
+    ensures { result ≡ every_below capacity (λ s. slot_fits tables.entry.attributes.now tables.entry.attribute_count.now marks.now sums.now s) }
 {
-    if slots_summed(capacity, attribute_count, marks, sums) {
-        return classes_differ(capacity, capacity - free, attributes, attribute_count);
+    if slots_summed(capacity, tables.attribute_count, marks, sums) {
+        return classes_differ(
+            capacity,
+            capacity - free,
+            tables.attributes,
+            tables.attribute_count,
+        );
     }
     false
 }

@@ -1,48 +1,16 @@
 // Opening the label half: the first entries of each table made 0, and the managers as new makes them.
+// Kept: an opening writes to slices that stand nowhere together but in its own parameters, so a struct of them would be made for one call.
 #![tactic(auto)]
 
-ghost use Rattle.std.specs.Prelude.{◌≡◌, ◌≤◌, length};
+ghost use Rattle.std.specs.Prelude.{◌≡◌};
 ghost use Rattle.interval_store_manager.specs.Answers.{opened, opening};
 ghost use Rattle.interval_store_manager.specs.Calls.{new_spec};
-ghost use Rattle.labels.specs.Opening.{cleared, labels_opened, Openable};
+ghost use Rattle.labels.specs.Opening.{labels_opened, Openable};
 ghost use Rattle.label_opening.specs.OpeningLaws.{LabelsOpenable};
 ghost use Rattle.labels.specs.Forms.{held};
 
-use interval_store_manager::{IntervalStoreManager, Opened};
+use interval_store_manager::IntervalStoreManager;
 use labels::LabelManagers;
-
-fn clear_u8(xs: &mut [u8], n: usize)
-    requires { n ≤ length xs.old }
-    ensures { xs.new ≡ cleared n xs.old }
-{
-    let mut i = 0;
-    while i < n {
-        xs[i] = 0;
-        i += 1;
-    }
-}
-
-fn clear_u16(xs: &mut [u16], n: usize)
-    requires { n ≤ length xs.old }
-    ensures { xs.new ≡ cleared n xs.old }
-{
-    let mut i = 0;
-    while i < n {
-        xs[i] = 0;
-        i += 1;
-    }
-}
-
-fn clear_u32(xs: &mut [u32], n: usize)
-    requires { n ≤ length xs.old }
-    ensures { xs.new ≡ cleared n xs.old }
-{
-    let mut i = 0;
-    while i < n {
-        xs[i] = 0;
-        i += 1;
-    }
-}
 
 // A manager of a capacity that is allowed, over slices that are long enough: new does not refuse it.
 fn open_manager(capacity: usize, starts: &mut [u16], ends: &mut [u16]) -> IntervalStoreManager
@@ -51,8 +19,8 @@ fn open_manager(capacity: usize, starts: &mut [u16], ends: &mut [u16]) -> Interv
 {
     let answer = IntervalStoreManager::new(capacity, starts, ends);
     match answer {
-        Opened::Manager(m) => m,
-        Opened::Refused(_) => IntervalStoreManager {
+        Ok(m) => m,
+        Err(_) => IntervalStoreManager {
             capacity,
             last_in_use: 0,
         },
@@ -75,12 +43,12 @@ pub fn open_labels(
     requires { LabelsOpenable capacity labels.old label_attributes.old label_count.old label_starts.old label_ends.old attributes.old attribute_count.old attribute_starts.old attribute_ends.old }
     ensures { held result labels.new label_attributes.new label_count.new label_starts.new label_ends.new attributes.new attribute_count.new attribute_starts.new attribute_ends.new ≡ labels_opened capacity (held result labels.old label_attributes.old label_count.old label_starts.old label_ends.old attributes.old attribute_count.old attribute_starts.old attribute_ends.old) }
 {
-    clear_u8(labels, capacity);
-    clear_u16(label_attributes, capacity);
-    clear_u16(label_count, capacity);
+    labels[..capacity].fill(0);
+    label_attributes[..capacity].fill(0);
+    label_count[..capacity].fill(0);
     let label_manager = open_manager(capacity, label_starts, label_ends);
-    clear_u8(attributes, capacity);
-    clear_u32(attribute_count, capacity);
+    attributes[..capacity].fill(0);
+    attribute_count[..capacity].fill(0);
     let attribute_manager = open_manager(capacity, attribute_starts, attribute_ends);
     LabelManagers {
         label_manager,

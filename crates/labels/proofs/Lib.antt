@@ -1,2 +1,4 @@
+pub mod Counting
 pub mod TakeLaws
 pub mod TakenAnswer
+pub mod Taking

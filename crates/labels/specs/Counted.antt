@@ -6,6 +6,7 @@ use Rattle.terms.specs.Below.{every_below, count_below}
 use Rattle.interval_store_manager.specs.declared.IntervalStoreManager.{IntervalStoreManager}
 use Rattle.interval_store_manager.specs.Intervals.{at_top, is_free, free_number}
 use Rattle.interval_store_manager.specs.WellFormed.{well_formed}
+use Rattle.interval_store_manager.specs.Answers.{done, Outcome, outcome}
 use Rattle.interval_store_manager.specs.Calls.{taken, released}
 
 pub record Counted : Type 0 where
@@ -64,3 +65,7 @@ lowered t i =
     let o = released t.manager t.starts t.ends i in
     cond (eqb (count_at t i) 1) (counted o.manager counts o.starts o.ends)
     (counted t.manager counts t.starts t.ends)
+
+-- an index is released where its count was 1
+unfoldable pub released_at_one : IntervalStoreManager → List ℕ → List ℕ → ℕ → ℕ → Outcome
+released_at_one m starts ends i count = cond (eqb count 1) (released m starts ends i) (outcome done m starts ends)

@@ -18,7 +18,7 @@ use Rattle.interval_store_manager.specs.Intervals.{at_top}
 use Rattle.interval_store_manager.specs.GetLaws.{next_below, get_keeps, get_free, get_was_free, took}
 use Rattle.interval_store_manager.specs.ReleaseLaws.{gave, release_keeps, release_free}
 use Rattle.interval_store_manager.specs.FreeLaws.{not_free_held, empty_stack}
-use Rattle.labels.specs.Counted.{Counted, counted, count_at, free, free_indices, next_index, managed, free_uncounted, counts_fit, index_taken, raised, lowered}
+use Rattle.labels.specs.Counted.{Counted, counted, count_at, free, free_indices, next_index, managed, free_uncounted, counts_fit, index_taken, raised, lowered, released_at_one}
 
 pub beq_same : (a b : Bool) → beq a b ≡ true → a ≡ b
 beq_same true true e = refl
@@ -191,6 +191,17 @@ lowered_released t i r ss es e f =
 pub lowered_kept : (t : Counted) (i : ℕ) → (count_at t i ≡ 1 → ⊥) → counted t.manager (set t.counts i (count_at t i - 1)) t.starts t.ends ≡ lowered t i
 unfolding lowered
 lowered_kept t i d = rw (ne_eqb (count_at t i) 1 d)
+
+-- and both: the count lowered, and the index released at 1
+pub lowered_at_one : (t : Counted) (i : ℕ) (r : IntervalStoreManager) (ss es : List ℕ) → outcome done r ss es ≡ released_at_one t.manager t.starts t.ends i (count_at t i) → counted r (set t.counts i (count_at t i - 1)) ss es ≡ lowered t i
+unfolding released_at_one
+lowered_at_one t i r ss es f =
+    elim (ℕ_discrete (count_at t i) 1) [
+      | yes e ↦ lowered_released t i r ss es e (rw (eq-eqb (count_at t i) 1 e) at f)
+      | no d ↦
+          ap (λ (o : Outcome). counted o.manager (set t.counts i (count_at t i - 1)) o.starts o.ends) (rw (ne_eqb (count_at t i) 1 d) at f)
+          ∙ lowered_kept t i d
+    ]
 
 -- the index that the manager's get gives, with how many remain free in the table after it
 given_next : (t : Counted) → (taken t.manager t.starts t.ends).answer ≡ given (next_index t) (free_indices (index_taken t))

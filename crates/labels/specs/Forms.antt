@@ -1,20 +1,15 @@
--- The label half as the contracts see it: the managers and the nine lent slices as one record, and what the functions under
--- take, inc and dec ask of their part.
-use Rattle.std.specs.Prelude.{ℕ, ◌≤◌, ◌<◌, List, ◌≡◌, length}
-use denote.Triple.Both.{Both}
+-- The label half as the contracts see it: the managers and the nine lists as one record, and what take, inc and dec and the
+-- functions under them ask of it.
+use Rattle.std.specs.Prelude.{ℕ, ◌≤◌, ◌<◌, List, true, false, ◌≡◌, length}
 use Rattle.terms.specs.declared.LabelIndex.{LabelIndex}
+use Rattle.interval_store_manager.specs.declared.IntervalStoreManager.{IntervalStoreManager}
+use Rattle.interval_store_manager.specs.Intervals.{is_free}
+use Rattle.interval_store_manager.specs.WellFormed.{well_formed}
 use Rattle.labels.specs.declared.LabelManagers.{LabelManagers}
 use Rattle.labels.specs.declared.LabelsFree.{LabelsFree}
 use Rattle.labels.specs.Counted.{Counted, counted, count_at, free_indices}
 use Rattle.labels.specs.CountedLaws.{WellCounted}
-use Rattle.labels.specs.Labels.{Labels, SlotTaken, LabelTaken}
-
--- a slice parameter, as a `requires` and as an `ensures` sees it
-abbrev pub Ref : Type 0
-Ref = List ℕ
-
-abbrev pub Slice : Type 0
-Slice = Both Ref Ref
+use Rattle.labels.specs.Labels.{Labels, label_count_at, SlotTaken, LabelTaken, labels_well}
 
 abbrev pub label_half : LabelManagers → List ℕ → List ℕ → List ℕ → List ℕ → List ℕ → List ℕ → List ℕ → List ℕ → List ℕ → Labels
 label_half m labels slots counts starts ends classes slot_counts slot_starts slot_ends =
@@ -26,16 +21,8 @@ label_half m labels slots counts starts ends classes slot_counts slot_starts slo
       attribute_table = counted m.attribute_manager slot_counts slot_starts slot_ends;
     }
 
--- where a call is asked for, when it began, and when it ended
-abbrev pub held : LabelManagers → Ref → Ref → Ref → Ref → Ref → Ref → Ref → Ref → Ref → Labels
+abbrev pub held : LabelManagers → List ℕ → List ℕ → List ℕ → List ℕ → List ℕ → List ℕ → List ℕ → List ℕ → List ℕ → Labels
 held m a b c d e f g h i = label_half m a b c d e f g h i
-
-abbrev pub entered : LabelManagers → Slice → Slice → Slice → Slice → Slice → Slice → Slice → Slice → Slice → Labels
-entered m a b c d e f g h i =
-    held m a.entry b.entry c.entry d.entry e.entry f.entry g.entry h.entry i.entry
-
-abbrev pub left : LabelManagers → Slice → Slice → Slice → Slice → Slice → Slice → Slice → Slice → Slice → Labels
-left m a b c d e f g h i = held m a.exit b.exit c.exit d.exit e.exit f.exit g.exit h.exit i.exit
 
 abbrev pub slot_outcome : ℕ → List ℕ → Counted → SlotTaken
 slot_outcome slot attributes table = record { slot = slot; attributes = attributes; table = table }
@@ -61,3 +48,22 @@ pub record InUse (capacity : ℕ) (t : Counted) (i : ℕ) : Type 0 where
   pub well : WellCounted capacity t
   pub below : i < capacity
   pub live : 0 < count_at t i
+
+-- an index may be released
+pub record Releasable (m : IntervalStoreManager) (starts ends : List ℕ) (i : ℕ) : Type 0 where
+  pub well : well_formed m starts ends ≡ true
+  pub below : i < m.capacity
+  pub not_free : is_free m.last_in_use starts ends i ≡ false
+
+-- a label may be taken for the code; so many are free
+pub record LabelReady (classes : List ℕ) (capacity : ℕ) (l : Labels) (code : ℕ) (free : LabelsFree) : Type 0 where
+  pub well : labels_well classes capacity l ≡ true
+  pub code_most : code ≤ 23
+  pub some_free : 0 < l.label_table.manager.last_in_use
+  pub figures : FreeOf free l
+
+-- a label of a well-formed label half is live
+pub record LiveLabel (classes : List ℕ) (capacity : ℕ) (l : Labels) (i : ℕ) : Type 0 where
+  pub well : labels_well classes capacity l ≡ true
+  pub below : i < capacity
+  pub live : 0 < label_count_at l i

@@ -1,5 +1,5 @@
 -- Document 01: the label half of a store, what an add, an inc and a dec do to it, and when it is well-formed.
-use Rattle.std.specs.Prelude.{ℕ, List, Bool, true, cond, not, ◌&&◌, length, get_or, set, leb, ltb, eqb}
+use Rattle.std.specs.Prelude.{ℕ, List, Bool, true, Option, Some, None, cond, not, ◌&&◌, length, get_or, set, leb, ltb, eqb}
 use Rattle.terms.specs.Below.{every_below, sum_below}
 use Rattle.terms.specs.Search.{first_below}
 use Rattle.labels.specs.Classes.{class_of}
@@ -35,6 +35,12 @@ holds_class attributes counts class s = ltb 0 (get_or counts s 0) && eqb (get_or
 -- the slot of a class 'if live': the first live slot that holds it, or the capacity where none does
 unfoldable pub class_slot : ℕ → List ℕ → List ℕ → ℕ → ℕ
 class_slot capacity attributes counts class = first_below capacity (holds_class attributes counts class)
+
+-- that slot, where there is one
+abbrev pub live_slot : ℕ → List ℕ → List ℕ → ℕ → Option ℕ
+live_slot capacity attributes counts class =
+    let live = class_slot capacity attributes counts class in
+    cond (ltb live capacity) (Some live) None
 
 -- a slot taken, with the classes and the table after it
 pub record SlotTaken : Type 0 where

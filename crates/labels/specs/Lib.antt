@@ -11,6 +11,7 @@ pub mod Decisions
 pub mod Readings
 pub mod ReadingLaws
 pub mod Forms
+pub mod Lent
 pub mod AnswerLaws
 pub mod DecisionLaws
 pub mod Examples

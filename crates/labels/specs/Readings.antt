@@ -1,13 +1,10 @@
 -- Document 01, 'The other readings': label, attribute and attribute_vec.
-use Rattle.std.specs.Prelude.{ℕ, ◌%◌, List, Bool, cond, length, get_or, set, replicate, eqb, Float}
+use Rattle.std.specs.Prelude.{ℕ, ◌%◌, List, Bool, Result, Ok, Err, cond, length, get_or, set, replicate, eqb, Float}
 use Rattle.std.specs.Float.{binary32}
 use Rattle.std.specs.Float.Ieee.{of_bits}
+use Rattle.terms.specs.declared.Refusal.{Refusal}
 use Rattle.terms.specs.Refusals.{number}
 use Rattle.labels.specs.Decisions.{in_use}
-use Rattle.labels.specs.declared.LabelRead.{LabelRead}
-use Rattle.labels.specs.declared.LabelRead.TheVariants as at_label
-use Rattle.labels.specs.declared.VectorRead.{VectorRead}
-use Rattle.labels.specs.declared.VectorRead.TheVariants as at_vector
 
 -- an answer: the number read, that the slice was written, or a refusal by its number
 pub data Answer : Type 0 where
@@ -15,13 +12,13 @@ pub data Answer : Type 0 where
   written : Answer
   refused : ℕ → Answer
 
-abbrev pub label_read_means : LabelRead → Answer
-label_read_means (at_label.Is n) = holds n
-label_read_means (at_label.Refused r) = refused (number r)
+abbrev pub label_read_means : Result ℕ Refusal → Answer
+label_read_means (Ok n) = holds n
+label_read_means (Err r) = refused (number r)
 
-abbrev pub vector_read_means : VectorRead → Answer
-vector_read_means at_vector.Written = written
-vector_read_means (at_vector.Refused r) = refused (number r)
+abbrev pub vector_read_means : Result Unit Refusal → Answer
+vector_read_means (Ok _) = written
+vector_read_means (Err r) = refused (number r)
 
 -- 'label (the code), attribute (its class) and attribute_vec need a label index in use, else 6'
 unfoldable pub label_spec : Bool → ℕ → List ℕ → List ℕ → ℕ → Answer

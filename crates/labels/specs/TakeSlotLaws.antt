@@ -1,5 +1,5 @@
 -- Laws of taking a slot: which one is taken, and what it leaves of the classes and the counts.
-use Rattle.std.specs.Prelude.{ℕ, ◌+◌, ◌≤◌, ◌<◌, List, refl, length, get_or, ltb, eqb}
+use Rattle.std.specs.Prelude.{ℕ, ◌+◌, ◌≤◌, ◌<◌, List, Some, None, cond, refl, length, get_or, ltb, eqb}
 use native.Mathlib.Omega.{arith}
 use Rattle.std.proofs.Math.Decide.{dec_lt, ℕ_discrete}
 use Rattle.std.proofs.Math.Bool.{true, false, and-false}
@@ -16,7 +16,7 @@ use Rattle.interval_store_manager.specs.Answers.{outcome, given}
 use Rattle.interval_store_manager.specs.Calls.{taken}
 use Rattle.labels.specs.Counted.{Counted, counted, count_at, next_index, index_taken, raised}
 use Rattle.labels.specs.CountedLaws.{WellCounted, raise_keeps, take_keeps, next_within, next_unused, index_given_lem, index_taken_lem}
-use Rattle.labels.specs.Labels.{holds_class, class_slot, SlotTaken, slot_taken}
+use Rattle.labels.specs.Labels.{holds_class, class_slot, live_slot, SlotTaken, slot_taken}
 use Rattle.labels.specs.Sound.{Distinct}
 
 -- what taking a slot leaves
@@ -40,28 +40,49 @@ other_class held counts class s d = rw (ne_eqb (get_or held s 0) class d) (and-f
 
 -- a search from the front finds the slot of the class, or passes them all
 module _ (c : ℕ) (held counts : List ℕ) (class : ℕ) where
-  pub class_found : (i : ℕ) → i < c → 0 < get_or counts i 0 → get_or held i 0 ≡ class → ((k : ℕ) → k < i → holds_class held counts class k ≡ false) → i ≡ class_slot c held counts class
+  pub class_found : (i : ℕ) → i < c → 0 < get_or counts i 0 → get_or held i 0 ≡ class → ((k : ℕ) → k < i → holds_class held counts class k ≡ false) → Some i ≡ live_slot c held counts class
   unfolding class_slot holds_class
   class_found i l u e f =
-      sym (first_is c (holds_class held counts class) i
-      (record { within = omega arith; passes = λ m. rw (lt-ltb 0 (get_or counts i 0) u, eq-eqb (get_or held i 0) class e); none_before = f }))
+      rw (
+        first_is c (holds_class held counts class) i
+            (record { within = omega arith; passes = λ m. rw (lt-ltb 0 (get_or counts i 0) u, eq-eqb (get_or held i 0) class e); none_before = f }),
+        lt-ltb i c l,
+      )
 
-  pub class_none : ((k : ℕ) → k < c → holds_class held counts class k ≡ false) → c ≡ class_slot c held counts class
+  pub class_none : ((k : ℕ) → k < c → holds_class held counts class k ≡ false) → None ≡ live_slot c held counts class
   unfolding class_slot
   class_none f =
-      sym (first_is c (holds_class held counts class) c
-      (record { within = omega arith; passes = λ m. absurd (omega arith); none_before = f }))
+      rw (
+        first_is c (holds_class held counts class) c
+            (record { within = omega arith; passes = λ m. absurd (omega arith); none_before = f }),
+        le-ltb c c (omega arith),
+      )
+
+-- the slot found is the one that the definition takes, and none is found where it takes none
+some_slot : (c r live : ℕ) → Some live ≡ cond (ltb r c) (Some r) None → (live ≡ r) × (live < c)
+some_slot c r live e =
+    elim (dec_lt r c) [
+      | yes h ↦ let f : Some live ≡ Some r = rw (lt-ltb r c h) at e in let q : live ≡ r = cc in (q, rw q h)
+      | no g ↦ absurd (let f : Some live ≡ None = rw (le-ltb r c (omega arith)) at e in let z : ◌≡◌ {A = ℕ} 0 1 = cc in omega arith)
+    ]
+
+no_slot : (c r : ℕ) → None ≡ cond (ltb r c) (Some r) None → c ≤ r
+no_slot c r e =
+    elim (dec_lt r c) [
+      | yes h ↦ absurd (let f : None ≡ Some r = rw (lt-ltb r c h) at e in let z : ◌≡◌ {A = ℕ} 0 1 = cc in omega arith)
+      | no g ↦ omega arith
+    ]
 
 -- the two forms of taking a slot
-module _ (c : ℕ) (held : List ℕ) (t : Counted) (class live : ℕ) (q : live ≡ class_slot c held t.counts class) where
-  pub taken_live : live < c → record { slot = live; attributes = held; table = counted t.manager (set t.counts live (count_at t live + 1)) t.starts t.ends } ≡ slot_taken c held t class
+module _ (c : ℕ) (held : List ℕ) (t : Counted) (class : ℕ) where
+  pub taken_live : (live : ℕ) → Some live ≡ live_slot c held t.counts class → record { slot = live; attributes = held; table = counted t.manager (set t.counts live (count_at t live + 1)) t.starts t.ends } ≡ slot_taken c held t class
   unfolding slot_taken raised
-  taken_live h = rw (sym q, lt-ltb live c h)
+  taken_live live q = let p = some_slot c (class_slot c held t.counts class) live q in rw (sym p.0, lt-ltb live c p.1)
 
-  pub taken_new : (a free : ℕ) (r : IntervalStoreManager) (ss es : List ℕ) → c ≤ live → outcome (given a free) r ss es ≡ taken t.manager t.starts t.ends → record { slot = a; attributes = set held a class; table = counted r (set t.counts a 1) ss es } ≡ slot_taken c held t class
+  pub taken_new : None ≡ live_slot c held t.counts class → (a free : ℕ) (r : IntervalStoreManager) (ss es : List ℕ) → outcome (given a free) r ss es ≡ taken t.manager t.starts t.ends → record { slot = a; attributes = set held a class; table = counted r (set t.counts a 1) ss es } ≡ slot_taken c held t class
   unfolding slot_taken
-  taken_new a free r ss es h e =
-      rw (sym q, le-ltb live c h)
+  taken_new q a free r ss es e =
+      rw (le-ltb (class_slot c held t.counts class) c (no_slot c (class_slot c held t.counts class) q))
       (let i = index_given_lem t a free r ss es e in
       ap₂ (λ (n : ℕ) (x : Counted). record { slot = n; attributes = set held n class; table = x }) i (index_taken_lem t a free r ss es e))
 

@@ -1,11 +1,14 @@
 // One count more or less of a label and of its slot, for callers that have checked. At 0 the index is released; code, slot
 // and class are left standing.
-ghost use Rattle.std.specs.Prelude.{true, ◌≡◌, ◌<◌, get_or};
-ghost use Rattle.labels.specs.Counted.{counted, lowered};
-ghost use Rattle.labels.specs.Labels.{labels_well, label_raised, label_lowered};
-ghost use Rattle.labels.specs.Forms.{InUse, held};
+ghost use Rattle.std.specs.Prelude.{◌≡◌, ◌<◌, get_or};
+ghost use Rattle.interval_store_manager.specs.Answers.{done, outcome};
+ghost use Rattle.labels.specs.Counted.{released_at_one};
+ghost use Rattle.labels.specs.Labels.{label_raised, label_lowered};
+ghost use Rattle.labels.specs.Forms.{Releasable, LiveLabel};
+ghost use Rattle.labels.specs.Lent.{labels_raising, labels_lowering, SameRaising, SameLowering};
 
 use crate::LabelManagers;
+use crate::tables::{LabelLowering, LabelRaising};
 use interval_store_manager::IntervalStoreManager;
 use terms::LabelIndex;
 
@@ -13,106 +16,65 @@ pub fn inc_label(
     classes: &[u8; 24],
     capacity: usize,
     managers: LabelManagers,
-    labels: &[u8],
-    label_attributes: &[u16],
-    label_count: &mut [u16],
-    label_starts: &[u16],
-    label_ends: &[u16],
-    attributes: &[u8],
-    attribute_count: &mut [u32],
-    attribute_starts: &[u16],
-    attribute_ends: &[u16],
+    tables: &mut LabelRaising,
     label: LabelIndex,
 )
-    requires { (labels_well classes.now capacity (held managers labels.now label_attributes.now label_count.old label_starts.now label_ends.now attributes.now attribute_count.old attribute_starts.now attribute_ends.now) ≡ true) × ((label.0 < capacity) × ((0 < get_or label_count.old label.0 0) × (get_or label_count.old label.0 0 < 65535))) }
-    ensures { held managers labels.now label_attributes.now label_count.new label_starts.now label_ends.now attributes.now attribute_count.new attribute_starts.now attribute_ends.now ≡ label_raised (held managers labels.now label_attributes.now label_count.old label_starts.now label_ends.now attributes.now attribute_count.old attribute_starts.now attribute_ends.now) label.0 }
+    requires { LiveLabel classes.now capacity (labels_raising managers tables.old) label.0 × (get_or tables.old.label_count.now label.0 0 < 65535) }
+    ensures same { SameRaising tables.old tables.new }
+    ensures raised { labels_raising managers tables.new ≡ label_raised (labels_raising managers tables.old) label.0 }
 {
     let i = label.0;
-    let slot = label_attributes[i] as usize;
-    label_count[i] += 1;
-    attribute_count[slot] += 1;
+    let slot = tables.label_attributes[i] as usize;
+    tables.label_count[i] += 1;
+    tables.attribute_count[slot] += 1;
 }
 
-// One count less of a label index.
-fn lower_label(
-    capacity: usize,
-    manager: IntervalStoreManager,
-    label_count: &mut [u16],
-    label_starts: &mut [u16],
-    label_ends: &mut [u16],
+// Releases an index whose count was 1 before it was lowered.
+#[tactic(auto, unfolding(crate::specs::Counted::released_at_one))]
+fn release_at_one(
+    manager: &mut IntervalStoreManager,
+    starts: &mut [u16],
+    ends: &mut [u16],
     i: usize,
-) -> IntervalStoreManager
-    requires { InUse capacity (counted manager label_count.old label_starts.old label_ends.old) i }
-    ensures { counted result label_count.new label_starts.new label_ends.new ≡ lowered (counted manager label_count.old label_starts.old label_ends.old) i }
+    count: u32,
+)
+    requires { Releasable manager.old starts.old ends.old i }
+    ensures { outcome done manager.new starts.new ends.new ≡ released_at_one manager.old starts.old ends.old i count }
 {
-    let count = label_count[i];
-    label_count[i] = count - 1;
     if count == 1 {
-        return manager.release_unchecked(label_starts, label_ends, i);
+        manager.release_unchecked(starts, ends, i);
     }
-    manager
-}
-
-// One count less of a slot.
-fn lower_slot(
-    capacity: usize,
-    manager: IntervalStoreManager,
-    attribute_count: &mut [u32],
-    attribute_starts: &mut [u16],
-    attribute_ends: &mut [u16],
-    slot: usize,
-) -> IntervalStoreManager
-    requires { InUse capacity (counted manager attribute_count.old attribute_starts.old attribute_ends.old) slot }
-    ensures { counted result attribute_count.new attribute_starts.new attribute_ends.new ≡ lowered (counted manager attribute_count.old attribute_starts.old attribute_ends.old) slot }
-{
-    let labelled = attribute_count[slot];
-    attribute_count[slot] = labelled - 1;
-    if labelled == 1 {
-        return manager.release_unchecked(attribute_starts, attribute_ends, slot);
-    }
-    manager
 }
 
 pub fn dec_label(
     classes: &[u8; 24],
     capacity: usize,
-    managers: LabelManagers,
-    labels: &[u8],
-    label_attributes: &[u16],
-    label_count: &mut [u16],
-    label_starts: &mut [u16],
-    label_ends: &mut [u16],
-    attributes: &[u8],
-    attribute_count: &mut [u32],
-    attribute_starts: &mut [u16],
-    attribute_ends: &mut [u16],
+    managers: &mut LabelManagers,
+    tables: &mut LabelLowering,
     label: LabelIndex,
-) -> LabelManagers
-    requires { (labels_well classes.now capacity (held managers labels.now label_attributes.now label_count.old label_starts.old label_ends.old attributes.now attribute_count.old attribute_starts.old attribute_ends.old) ≡ true) × ((label.0 < capacity) × (0 < get_or label_count.old label.0 0)) }
-    ensures { held result labels.now label_attributes.now label_count.new label_starts.new label_ends.new attributes.now attribute_count.new attribute_starts.new attribute_ends.new ≡ label_lowered (held managers labels.now label_attributes.now label_count.old label_starts.old label_ends.old attributes.now attribute_count.old attribute_starts.old attribute_ends.old) label.0 }
+)
+    requires { LiveLabel classes.now capacity (labels_lowering managers.old tables.old) label.0 }
+    ensures same { SameLowering tables.old tables.new }
+    ensures lowered { labels_lowering managers.new tables.new ≡ label_lowered (labels_lowering managers.old tables.old) label.0 }
 {
     let i = label.0;
-    let slot = label_attributes[i] as usize;
-    let index_manager = managers.label_manager;
-    let label_manager = lower_label(
-        capacity,
-        index_manager,
-        label_count,
-        label_starts,
-        label_ends,
+    let slot = tables.label_attributes[i] as usize;
+    let count = tables.label_count[i];
+    tables.label_count[i] = count - 1;
+    release_at_one(
+        &mut managers.label_manager,
+        tables.label_starts,
+        tables.label_ends,
         i,
+        count as u32,
     );
-    let slot_manager = managers.attribute_manager;
-    let attribute_manager = lower_slot(
-        capacity,
-        slot_manager,
-        attribute_count,
-        attribute_starts,
-        attribute_ends,
+    let labelled = tables.attribute_count[slot];
+    tables.attribute_count[slot] = labelled - 1;
+    release_at_one(
+        &mut managers.attribute_manager,
+        tables.attribute_starts,
+        tables.attribute_ends,
         slot,
+        labelled,
     );
-    LabelManagers {
-        label_manager,
-        attribute_manager,
-    }
 }

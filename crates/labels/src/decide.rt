@@ -4,13 +4,15 @@ ghost use Rattle.interval_store_manager.specs.Calls.{decision_means};
 ghost use Rattle.labels.specs.Decisions.{in_use, code_decided, room_decided, inc_decided, dec_decided};
 
 use crate::classes::LARGEST_CODE;
-use crate::entry::entry_u16;
-use interval_store_manager::{Decision, IntervalStoreManager};
+use crate::entry::entry;
+use interval_store_manager::IntervalStoreManager;
 use terms::{LabelIndex, NONE, Refusal};
 
 // Document 01: 'inc of a point or label count at 65,535'.
+// Kept: the point's largest count stands in `store_counts`, in the type of its own comparison; they are two bounds of one number.
 const LARGEST_COUNT: u16 = 65535;
 
+#[tactic(auto, unfolding(crate::specs::Decisions::in_use))]
 pub fn label_in_use(
     store_labels: bool,
     capacity: usize,
@@ -22,72 +24,76 @@ pub fn label_in_use(
     let i = label.0;
     if store_labels {
         if i < capacity {
-            return 0 < entry_u16(label_count, i);
+            return 0 < entry(label_count, i, 0);
         }
     }
     false
 }
 
 // Whether an add may carry this code.
-pub fn code_decision(store_labels: bool, code: usize) -> Decision
+#[tactic(auto, unfolding(crate::specs::Decisions::code_decided))]
+pub fn code_decision(store_labels: bool, code: usize) -> Result<(), Refusal>
     ensures { decision_means result ≡ code_decided store_labels code }
 {
     if store_labels {
         if LARGEST_CODE < code {
-            return Decision::Refuse(Refusal::LabelCode);
+            return Err(Refusal::LabelCode);
         }
     }
-    Decision::Go
+    Ok(())
 }
 
 // Whether a kept add finds a label index.
-pub fn room_decision(store_labels: bool, label_manager: IntervalStoreManager) -> Decision
+#[tactic(auto, unfolding(crate::specs::Decisions::room_decided))]
+pub fn room_decision(store_labels: bool, label_manager: IntervalStoreManager) -> Result<(), Refusal>
     ensures { decision_means result ≡ room_decided store_labels label_manager }
 {
     if store_labels {
         if label_manager.last_in_use == 0 {
-            return Decision::Refuse(Refusal::LabelsFull);
+            return Err(Refusal::LabelsFull);
         }
     }
-    Decision::Go
+    Ok(())
 }
 
+#[tactic(auto, unfolding(crate::specs::Decisions::inc_decided))]
 pub fn inc_decision(
     store_labels: bool,
     capacity: usize,
     label_count: &[u16],
     label: LabelIndex,
-) -> Decision
+) -> Result<(), Refusal>
     ensures { decision_means result ≡ inc_decided store_labels capacity label_count.now label.0 }
 {
     if store_labels {
         if label_in_use(store_labels, capacity, label_count, label) {
-            if entry_u16(label_count, label.0) == LARGEST_COUNT {
-                return Decision::Refuse(Refusal::CountFull);
+            if entry(label_count, label.0, 0) == LARGEST_COUNT {
+                return Err(Refusal::CountFull);
             }
-            return Decision::Go;
+            return Ok(());
         }
-        return Decision::Refuse(Refusal::LabelNotInUse);
+        return Err(Refusal::LabelNotInUse);
     }
-    Decision::Go
+    Ok(())
 }
 
+#[tactic(auto, unfolding(crate::specs::Decisions::dec_decided))]
 pub fn dec_decision(
     store_labels: bool,
     capacity: usize,
     label_count: &[u16],
     label: LabelIndex,
-) -> Decision
+) -> Result<(), Refusal>
     ensures { decision_means result ≡ dec_decided store_labels capacity label_count.now label.0 }
 {
     if store_labels {
         if label_in_use(store_labels, capacity, label_count, label) {
-            return Decision::Go;
+            return Ok(());
         }
-        return Decision::Refuse(Refusal::LabelNotInUse);
+        return Err(Refusal::LabelNotInUse);
     }
     if label.0 == NONE {
-        return Decision::Go;
+        return Ok(());
     }
-    Decision::Refuse(Refusal::LabelNotInUse)
+    Err(Refusal::LabelNotInUse)
 }

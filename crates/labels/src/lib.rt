@@ -8,6 +8,7 @@ mod count;
 mod decide;
 mod entry;
 mod read;
+mod tables;
 mod take;
 
 pub use classes::{LARGEST_CODE, class_of};
@@ -15,8 +16,8 @@ pub use count::{dec_label, inc_label};
 pub use decide::{code_decision, dec_decision, inc_decision, label_in_use, room_decision};
 use interval_store_manager::IntervalStoreManager;
 pub use read::{attribute, attribute_vec, label};
+pub use tables::{LabelLowering, LabelRaising, LabelTables, LabelTaking};
 pub use take::take_label;
-use terms::{LabelIndex, Refusal};
 
 // The managers of the label indices and of the attribute slots.
 #[derive(Clone, Copy)]
@@ -30,25 +31,4 @@ pub struct LabelManagers {
 pub struct LabelsFree {
     pub labels: usize,
     pub slots: usize,
-}
-
-// What taking a label gives: its index, and the managers after it.
-#[derive(Clone, Copy)]
-pub struct TakenLabel {
-    pub label: LabelIndex,
-    pub managers: LabelManagers,
-}
-
-// What a reading of a label's code or class finds.
-#[derive(Clone, Copy)]
-pub enum LabelRead {
-    Is(usize),
-    Refused(Refusal),
-}
-
-// What attribute_vec answers.
-#[derive(Clone, Copy)]
-pub enum VectorRead {
-    Written,
-    Refused(Refusal),
 }

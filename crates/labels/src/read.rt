@@ -3,26 +3,26 @@ ghost use Rattle.std.specs.Prelude.{◌≡◌, ◌<◌, length, get_or, set, rep
 ghost use Rattle.labels.specs.Readings.{label_read_means, vector_read_means, zero_float, one_float, label_spec, attribute_spec, vector_outcome, attribute_vec_spec};
 
 use crate::decide::label_in_use;
-use crate::entry::{entry_u8, entry_u16};
-use crate::{LabelRead, VectorRead};
+use crate::entry::entry;
 use terms::{LabelIndex, Refusal};
 
 // Document 01: 'ten floats'.
 const VECTOR_LENGTH: usize = 10;
 
+#[tactic(auto, unfolding(crate::specs::Readings::label_spec))]
 pub fn label(
     store_labels: bool,
     capacity: usize,
     labels: &[u8],
     label_count: &[u16],
     index: LabelIndex,
-) -> LabelRead
+) -> Result<usize, Refusal>
     ensures { label_read_means result ≡ label_spec store_labels capacity labels.now label_count.now index.0 }
 {
     if label_in_use(store_labels, capacity, label_count, index) {
-        return LabelRead::Is(entry_u8(labels, index.0) as usize);
+        return Ok(entry(labels, index.0, 0) as usize);
     }
-    LabelRead::Refused(Refusal::LabelNotInUse)
+    Err(Refusal::LabelNotInUse)
 }
 
 // The slot of a label, and the class that the slot holds.
@@ -35,13 +35,14 @@ struct HeldClass {
 fn attribute_at(label_attributes: &[u16], attributes: &[u8], index: LabelIndex) -> HeldClass
     ensures { (result.slot ≡ get_or label_attributes.now index.0 0) × (result.class ≡ get_or attributes.now (get_or label_attributes.now index.0 0) 0) }
 {
-    let slot = entry_u16(label_attributes, index.0) as usize;
+    let slot = entry(label_attributes, index.0, 0) as usize;
     HeldClass {
         slot,
-        class: entry_u8(attributes, slot) as usize,
+        class: entry(attributes, slot, 0) as usize,
     }
 }
 
+#[tactic(auto, unfolding(crate::specs::Readings::attribute_spec))]
 pub fn attribute(
     store_labels: bool,
     capacity: usize,
@@ -49,14 +50,14 @@ pub fn attribute(
     label_count: &[u16],
     attributes: &[u8],
     index: LabelIndex,
-) -> LabelRead
+) -> Result<usize, Refusal>
     ensures { label_read_means result ≡ attribute_spec store_labels capacity label_attributes.now label_count.now attributes.now index.0 }
 {
     if label_in_use(store_labels, capacity, label_count, index) {
         let found = attribute_at(label_attributes, attributes, index);
-        return LabelRead::Is(found.class);
+        return Ok(found.class);
     }
-    LabelRead::Refused(Refusal::LabelNotInUse)
+    Err(Refusal::LabelNotInUse)
 }
 
 // 1.0 at one place, else 0.0.
@@ -64,14 +65,11 @@ fn one_hot(out: &mut [f32], at: usize)
     requires { at < length out.old }
     ensures { out.new ≡ set (replicate (length out.old) zero_float) at one_float }
 {
-    let mut i = 0;
-    while i < out.len() {
-        out[i] = 0.0;
-        i += 1;
-    }
+    out.fill(0.0);
     out[at] = 1.0;
 }
 
+#[tactic(auto, unfolding(crate::specs::Readings::attribute_vec_spec, crate::specs::Readings::one_hot))]
 pub fn attribute_vec(
     store_labels: bool,
     capacity: usize,
@@ -80,16 +78,16 @@ pub fn attribute_vec(
     attributes: &[u8],
     index: LabelIndex,
     out: &mut [f32],
-) -> VectorRead
+) -> Result<(), Refusal>
     ensures { vector_outcome (vector_read_means result) out.new ≡ attribute_vec_spec store_labels capacity label_attributes.now label_count.now index.0 out.old }
 {
     if label_in_use(store_labels, capacity, label_count, index) {
         if out.len() == VECTOR_LENGTH {
             let found = attribute_at(label_attributes, attributes, index);
             one_hot(out, found.slot % VECTOR_LENGTH);
-            return VectorRead::Written;
+            return Ok(());
         }
-        return VectorRead::Refused(Refusal::Length);
+        return Err(Refusal::Length);
     }
-    VectorRead::Refused(Refusal::LabelNotInUse)
+    Err(Refusal::LabelNotInUse)
 }

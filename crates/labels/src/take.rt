@@ -1,118 +1,92 @@
 // Taking a label, for callers that have checked: the slot of the class if live, else one from its manager; then a label
 // index.
-ghost use Rattle.std.specs.Prelude.{true, ◌≡◌, ◌<◌, ◌≤◌, length};
+ghost use Rattle.std.specs.Prelude.{◌≡◌, ◌≤◌, length};
 ghost use Rattle.labels.specs.Counted.{counted};
-ghost use Rattle.labels.specs.Labels.{class_slot, slot_taken, label_taken, labels_well};
-ghost use Rattle.labels.specs.Forms.{FreeOf, SlotReady, slot_outcome, held, label_outcome};
+ghost use Rattle.labels.specs.Labels.{live_slot, slot_taken, label_taken};
+ghost use Rattle.labels.specs.Forms.{SlotReady, LabelReady, slot_outcome, label_outcome};
+ghost use Rattle.labels.specs.Lent.{labels_taking, SameTaking};
 
 use crate::classes::class_of;
-use crate::{LabelManagers, LabelsFree, TakenLabel};
+use crate::tables::LabelTaking;
+use crate::{LabelManagers, LabelsFree};
 use interval_store_manager::IntervalStoreManager;
 use terms::LabelIndex;
 
-// A slot taken, with its manager after it.
-#[derive(Clone, Copy)]
-struct TakenSlot {
-    slot: usize,
-    manager: IntervalStoreManager,
-}
-
-// The live slot that holds the class, or the capacity where none does.
-fn class_slot(capacity: usize, attributes: &[u8], attribute_count: &[u32], class: u8) -> usize
+// The live slot that holds the class.
+fn class_slot(
+    capacity: usize,
+    attributes: &[u8],
+    attribute_count: &[u32],
+    class: u8,
+) -> Option<usize>
     requires { (capacity ≤ length attributes.now) × (capacity ≤ length attribute_count.now) }
-    ensures { result ≡ class_slot capacity attributes.now attribute_count.now class }
+    ensures { result ≡ live_slot capacity attributes.now attribute_count.now class }
 {
-    let mut i = 0;
-    while i < capacity {
+    for i in 0..capacity {
         if 0 < attribute_count[i] {
             if attributes[i] == class {
-                return i;
+                return Some(i);
             }
         }
-        i += 1;
     }
-    capacity
+    None
 }
 
 // A slot for the class, with one count more.
 fn take_slot(
     capacity: usize,
-    manager: IntervalStoreManager,
+    manager: &mut IntervalStoreManager,
     attributes: &mut [u8],
     attribute_count: &mut [u32],
     attribute_starts: &mut [u16],
     attribute_ends: &[u16],
     class: u8,
     free: usize,
-) -> TakenSlot
-    requires { SlotReady capacity attributes.old (counted manager attribute_count.old attribute_starts.old attribute_ends.now) free }
-    ensures { slot_outcome result.slot attributes.new (counted result.manager attribute_count.new attribute_starts.new attribute_ends.now) ≡ slot_taken capacity attributes.old (counted manager attribute_count.old attribute_starts.old attribute_ends.now) class }
+) -> usize
+    requires { SlotReady capacity attributes.old (counted manager.old attribute_count.old attribute_starts.old attribute_ends.now) free }
+    ensures { slot_outcome result attributes.new (counted manager.new attribute_count.new attribute_starts.new attribute_ends.now) ≡ slot_taken capacity attributes.old (counted manager.old attribute_count.old attribute_starts.old attribute_ends.now) class }
 {
-    let live = class_slot(capacity, attributes, attribute_count, class);
-    if live < capacity {
+    if let Some(live) = class_slot(capacity, attributes, attribute_count, class) {
         attribute_count[live] += 1;
-        return TakenSlot {
-            slot: live,
-            manager,
-        };
+        return live;
     }
-    let taken = manager.get_unchecked(attribute_starts, attribute_ends, free);
-    let slot = taken.given.index;
+    let given = manager.get_unchecked(attribute_starts, attribute_ends, free);
+    let slot = given.index;
     attributes[slot] = class;
     attribute_count[slot] = 1;
-    let after = taken.manager;
-    TakenSlot {
-        slot,
-        manager: after,
-    }
+    slot
 }
 
 // A label index for the code, with its slot.
 pub fn take_label(
     classes: &[u8; 24],
     capacity: usize,
-    managers: LabelManagers,
-    labels: &mut [u8],
-    label_attributes: &mut [u16],
-    label_count: &mut [u16],
-    label_starts: &mut [u16],
-    label_ends: &[u16],
-    attributes: &mut [u8],
-    attribute_count: &mut [u32],
-    attribute_starts: &mut [u16],
-    attribute_ends: &[u16],
+    managers: &mut LabelManagers,
+    tables: &mut LabelTaking,
     code: usize,
     free: LabelsFree,
-) -> TakenLabel
-    requires { (labels_well classes.now capacity (held managers labels.old label_attributes.old label_count.old label_starts.old label_ends.now attributes.old attribute_count.old attribute_starts.old attribute_ends.now) ≡ true) × ((code ≤ 23) × ((0 < managers.label_manager.last_in_use) × FreeOf free (held managers labels.old label_attributes.old label_count.old label_starts.old label_ends.now attributes.old attribute_count.old attribute_starts.old attribute_ends.now))) }
-    ensures { label_outcome result.label (held result.managers labels.new label_attributes.new label_count.new label_starts.new label_ends.now attributes.new attribute_count.new attribute_starts.new attribute_ends.now) ≡ label_taken classes.now capacity (held managers labels.old label_attributes.old label_count.old label_starts.old label_ends.now attributes.old attribute_count.old attribute_starts.old attribute_ends.now) code }
+) -> LabelIndex
+    requires { LabelReady classes.now capacity (labels_taking managers.old tables.old) code free }
+    ensures same { SameTaking tables.old tables.new }
+    ensures taken { label_outcome result (labels_taking managers.new tables.new) ≡ label_taken classes.now capacity (labels_taking managers.old tables.old) code }
 {
     let class = class_of(classes, code);
-    let slot_manager = managers.attribute_manager;
-    let s = take_slot(
+    let slot = take_slot(
         capacity,
-        slot_manager,
-        attributes,
-        attribute_count,
-        attribute_starts,
-        attribute_ends,
+        &mut managers.attribute_manager,
+        tables.attributes,
+        tables.attribute_count,
+        tables.attribute_starts,
+        tables.attribute_ends,
         class,
         free.slots,
     );
-    let slot = s.slot;
-    let attribute_manager = s.manager;
-    let index_manager = managers.label_manager;
-    let taken = index_manager.get_unchecked(label_starts, label_ends, free.labels);
-    let index = taken.given.index;
-    let label_manager = taken.manager;
-    labels[index] = code as u8;
-    label_attributes[index] = slot as u16;
-    label_count[index] = 1;
-    TakenLabel {
-        label: LabelIndex(index),
-        managers: LabelManagers {
-            label_manager,
-            attribute_manager,
-        },
-    }
+    let given = managers
+        .label_manager
+        .get_unchecked(tables.label_starts, tables.label_ends, free.labels);
+    let index = given.index;
+    tables.labels[index] = code as u8;
+    tables.label_attributes[index] = slot as u16;
+    tables.label_count[index] = 1;
+    LabelIndex(index)
 }

@@ -1,134 +1,98 @@
-// A recorded call made on the proved manager, and its answer in the record's numbers.
-use interval_store_manager::{
-    ChangeResult, Changed, Emptiness, GetResult, Got, IntervalStoreManager, Number, Opened,
-};
-use terms::{Refusal, refusal_number};
+// A recorded call made on the proved manager, and what is seen of it.
+use crate::call::Call;
+use interval_store_manager::IntervalStoreManager;
+use std::fmt;
+use terms::Refusal;
 
-pub const NEW: usize = 0;
-
-pub const CHANGE_CAPACITY: usize = 1;
-
-pub const GET: usize = 2;
-
-pub const RELEASE: usize = 3;
-
-pub const USED: usize = 4;
-
-pub const IS_EMPTY: usize = 5;
-
-pub const GET_CAPACITY: usize = 6;
-
-// The value of a line whose call is none of these.
-const NO_CALL: usize = 99;
-
-#[derive(Clone, Copy)]
-pub struct Made {
-    pub manager: IntervalStoreManager,
+// What the record holds of a call: 0 or the number of its refusal, its answer, and the manager's stack after it, with the
+// start and the end of the stack's top. What there is none of is 0.
+#[derive(Clone, Copy, PartialEq, Eq)]
+pub struct Seen {
     pub value: usize,
     pub answer: usize,
-}
-
-// The stack's top after a call: 0 and 0 where the stack is empty.
-#[derive(Clone, Copy)]
-pub struct Top {
+    pub in_use: usize,
     pub start: usize,
     pub end: usize,
 }
 
-fn refused(manager: IntervalStoreManager, why: Refusal) -> Made {
-    Made {
-        manager,
-        value: refusal_number(why) as usize,
-        answer: 0,
+impl fmt::Display for Seen {
+    fn fmt<W: fmt::Write>(&self, f: &mut fmt::Formatter<W>) -> fmt::Result {
+        let Seen {
+            value,
+            answer,
+            in_use,
+            start,
+            end,
+        } = *self;
+        write!(
+            f,
+            "value {value}, answer {answer}, in use {in_use}, top {start} to {end}"
+        )
     }
 }
 
-fn answered(manager: IntervalStoreManager, answer: usize) -> Made {
-    Made {
-        manager,
-        value: 0,
-        answer,
-    }
+// The manager with its memory.
+#[derive(Clone, Copy)]
+pub struct Replayed {
+    manager: IntervalStoreManager,
+    starts: [u16; 1024],
+    ends: [u16; 1024],
 }
 
-fn opened(m: IntervalStoreManager, o: Opened) -> Made {
-    match o {
-        Opened::Manager(manager) => answered(manager, 0),
-        Opened::Refused(why) => refused(m, why),
-    }
+// The entry at the top of a stack, or 0.
+fn top(entries: &[u16], in_use: usize) -> usize {
+    in_use
+        .checked_sub(1)
+        .and_then(|top| entries.get(top))
+        .map_or(0, |entry| usize::from(*entry))
 }
 
-fn changed(r: ChangeResult) -> Made {
-    let m = r.manager;
-    let answer = r.answer;
-    match answer {
-        Changed::Done => answered(m, 0),
-        Changed::Refused(why) => refused(m, why),
-    }
-}
-
-fn got(r: GetResult) -> Made {
-    let m = r.manager;
-    let answer = r.answer;
-    match answer {
-        Got::Given(given) => answered(m, given.index),
-        Got::Refused(why) => refused(m, why),
-    }
-}
-
-fn read(m: IntervalStoreManager, n: Number) -> Made {
-    match n {
-        Number::Is(k) => answered(m, k),
-        Number::Refused(why) => refused(m, why),
-    }
-}
-
-fn told(m: IntervalStoreManager, e: Emptiness) -> Made {
-    match e {
-        Emptiness::Empty(b) => answered(m, b as usize),
-        Emptiness::Refused(why) => refused(m, why),
-    }
-}
-
-pub fn make(
-    m: IntervalStoreManager,
-    starts: &mut [u16],
-    ends: &mut [u16],
-    call: usize,
-    argument: usize,
-) -> Made {
-    match call {
-        NEW => opened(m, IntervalStoreManager::new(argument, starts, ends)),
-        CHANGE_CAPACITY => changed(m.change_capacity(starts, ends, argument)),
-        GET => got(m.get(starts, ends)),
-        RELEASE => changed(m.release(starts, ends, argument)),
-        USED => read(m, m.used(starts, ends)),
-        IS_EMPTY => told(m, m.is_empty(starts, ends)),
-        GET_CAPACITY => read(m, m.get_capacity(starts, ends)),
-        _ => Made {
-            manager: m,
-            value: NO_CALL,
-            answer: 0,
-        },
-    }
-}
-
-fn wide(x: u16) -> usize {
-    x as usize
-}
-
-pub fn top_of(m: IntervalStoreManager, starts: &[u16], ends: &[u16]) -> Top {
-    let n = m.last_in_use;
-    if 0 < n {
-        let top = n - 1;
-        if top < starts.len() {
-            if top < ends.len() {
-                return Top {
-                    start: wide(starts[top]),
-                    end: wide(ends[top]),
-                };
-            }
+impl Replayed {
+    pub fn new() -> Self {
+        Replayed {
+            manager: IntervalStoreManager {
+                capacity: 0,
+                last_in_use: 0,
+            },
+            starts: [0; 1024],
+            ends: [0; 1024],
         }
     }
-    Top { start: 0, end: 0 }
+
+    // The call's answer as a number: 0 where it has none.
+    fn answer(&mut self, call: Call, argument: usize) -> Result<usize, Refusal> {
+        let starts = &mut self.starts;
+        let ends = &mut self.ends;
+        // Kept: each call takes arguments of its own, which a table of functions would have to carry all.
+        match call {
+            Call::New => {
+                self.manager = IntervalStoreManager::new(argument, starts, ends)?;
+                Ok(0)
+            }
+            Call::ChangeCapacity => self
+                .manager
+                .change_capacity(starts, ends, argument)
+                .map(|()| 0),
+            Call::Get => self.manager.get(starts, ends).map(|given| given.index),
+            Call::Release => self.manager.release(starts, ends, argument).map(|()| 0),
+            Call::Used => self.manager.used(starts, ends),
+            Call::IsEmpty => self.manager.is_empty(starts, ends).map(usize::from),
+            Call::GetCapacity => self.manager.get_capacity(starts, ends),
+        }
+    }
+
+    pub fn make(&mut self, call: Call, argument: usize) -> Seen {
+        let (value, answer) = match self.answer(call, argument) {
+            Ok(answer) => (0, answer),
+            Err(why) => (u64::from(why) as usize, 0),
+        };
+        let in_use = self.manager.last_in_use;
+        Seen {
+            value,
+            answer,
+            in_use,
+            start: top(&self.starts, in_use),
+            end: top(&self.ends, in_use),
+        }
+    }
 }

@@ -4,92 +4,53 @@
 // differential/README.md.
 #![tactic(auto)]
 
+mod call;
 mod made;
-mod tally;
 mod text;
 
-use interval_store_manager::IntervalStoreManager;
-use made::{Made, Top, make, top_of};
-use recorded_text::count_lines;
+use call::{CALLS, Call};
+use made::Replayed;
+use recorded_text::{Tally, count_lines};
 use std::{fs, io};
-use text::{Line, line_at};
-
-// What the replay of one line finds: the manager after it, and where the next line starts.
-#[derive(Clone, Copy)]
-struct Step {
-    manager: IntervalStoreManager,
-    next: usize,
-}
-
-fn agrees(line: Line, made: Made, top: Top) -> bool {
-    if made.value != line.value {
-        return false;
-    }
-    if made.answer != line.answer {
-        return false;
-    }
-    if made.manager.last_in_use != line.in_use {
-        return false;
-    }
-    if top.start != line.start {
-        return false;
-    }
-    top.end == line.end
-}
+use text::{Line, next_line};
 
 fn replay_line(
     rt: &impl Print,
-    text: &[u8],
-    at: usize,
     step: usize,
-    m: IntervalStoreManager,
-    starts: &mut [u16],
-    ends: &mut [u16],
-    tally: &mut [u64; 16],
-) -> io::Result<Step> {
-    let line = line_at(text, at);
-    let made = make(m, starts, ends, line.call, line.argument);
-    let manager = made.manager;
-    let top = top_of(manager, starts, ends);
-    let agreed = agrees(line, made, top);
-    tally::count(tally, line.call, agreed);
-    if !agreed {
-        tally::print_difference(rt, step, line, made, top)?;
-    }
-    Ok(Step {
-        manager,
-        next: line.next,
-    })
-}
-
-fn replay(
-    rt: &impl Print,
-    text: &[u8],
-    starts: &mut [u16],
-    ends: &mut [u16],
-    tally: &mut [u64; 16],
+    line: Line,
+    manager: &mut Replayed,
+    tally: &mut Tally<7>,
 ) -> io::Result<()> {
-    let lines = count_lines(text);
-    let mut m = IntervalStoreManager {
-        capacity: 0,
-        last_in_use: 0,
+    let argument = line.argument;
+    let recorded = line.seen;
+    let call = match Call::try_from(line.call) {
+        Ok(call) => call,
+        Err(unknown) => {
+            tally.count(line.call, false);
+            return println!(rt; "step {step} differs: {unknown}");
+        }
     };
-    let mut at: usize = 0;
-    let mut step: usize = 0;
-    while step < lines {
-        step += 1;
-        let replayed = replay_line(rt, text, at, step, m, starts, ends, tally)?;
-        m = replayed.manager;
-        at = replayed.next;
+    let seen = manager.make(call, argument);
+    tally.count(line.call, seen == recorded);
+    if seen != recorded {
+        println!(rt; "step {step} differs: {call} {argument}: {seen}; recorded: {recorded}")?;
     }
     Ok(())
 }
 
+fn replay(rt: &impl Print, text: &[u8]) -> io::Result<Tally<7>> {
+    let mut manager = Replayed::new();
+    let mut tally = Tally::new();
+    let mut at = 0;
+    for step in 1..=count_lines(text) {
+        let line = next_line(text, &mut at);
+        replay_line(rt, step, line, &mut manager, &mut tally)?;
+    }
+    Ok(tally)
+}
+
 fn main(rt: HostRuntime) -> io::Result<()> {
     let text = fs::read(&rt, "manager_calls")?;
-    let mut starts = [0u16; 1024];
-    let mut ends = [0u16; 1024];
-    let mut tally = [0u64; 16];
-    replay(&rt, &text, &mut starts, &mut ends, &mut tally)?;
-    tally::print_summary(&rt, &tally)
+    let tally = replay(&rt, &text)?;
+    tally.print(&rt, &CALLS)
 }

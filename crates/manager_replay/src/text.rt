@@ -1,34 +1,25 @@
 // A line of the record: seven numbers.
-use recorded_text::number_at;
+use crate::made::Seen;
+use recorded_text::next_number;
 
 #[derive(Clone, Copy)]
 pub struct Line {
     pub call: usize,
     pub argument: usize,
-    pub value: usize,
-    pub answer: usize,
-    pub in_use: usize,
-    pub start: usize,
-    pub end: usize,
-    pub next: usize,
+    pub seen: Seen,
 }
 
-pub fn line_at(text: &[u8], at: usize) -> Line {
-    let call = number_at(text, at);
-    let argument = number_at(text, call.next);
-    let value = number_at(text, argument.next);
-    let answer = number_at(text, value.next);
-    let in_use = number_at(text, answer.next);
-    let start = number_at(text, in_use.next);
-    let end = number_at(text, start.next);
+// The line that starts at `at`, which then is where the next one starts.
+pub fn next_line(text: &[u8], at: &mut usize) -> Line {
     Line {
-        call: call.value,
-        argument: argument.value,
-        value: value.value,
-        answer: answer.value,
-        in_use: in_use.value,
-        start: start.value,
-        end: end.value,
-        next: end.next,
+        call: next_number(text, at),
+        argument: next_number(text, at),
+        seen: Seen {
+            value: next_number(text, at),
+            answer: next_number(text, at),
+            in_use: next_number(text, at),
+            start: next_number(text, at),
+            end: next_number(text, at),
+        },
     }
 }

@@ -6,18 +6,11 @@ ghost use Rattle.store_definitions.specs.Answers.{number_means, output};
 ghost use Rattle.page.specs.Page.{page_text, page_written};
 ghost use Rattle.page.specs.Writing.{Readable};
 
-use store_definitions::Number;
 use terms::Refusal;
 
 const COLUMNS: usize = 6;
 
 const LINE_BYTES: usize = 19;
-
-fn wide(x: u16) -> usize
-    ensures { result ≡ x }
-{
-    x as usize
-}
 
 // The line of one index.
 fn put_point(text: &mut [u8], at: usize, index: usize, count: usize, place: usize)
@@ -33,15 +26,13 @@ fn write_lines(table_length: usize, reference_count: &[u16], location: &[u16], t
     ensures { text.new ≡ put 0 (page_text table_length reference_count.now location.now) text.old }
 {
     let mut end = 0;
-    let mut i = 0;
-    while i < table_length {
-        let count = wide(reference_count[i]);
+    for i in 0..table_length {
+        let count = reference_count[i] as usize;
         if 0 < count {
-            let place = wide(location[i]);
+            let place = location[i] as usize;
             put_point(text, end, i, count, place);
             end += LINE_BYTES;
         }
-        i += 1;
     }
 }
 
@@ -52,14 +43,14 @@ pub fn page_unchecked(
     reference_count: &[u16],
     location: &[u16],
     text: &mut [u8],
-) -> Number
+) -> Result<usize, Refusal>
     requires { Readable table_length live reference_count.now location.now }
     ensures { output (number_means result) text.new ≡ page_written table_length reference_count.now location.now text.old }
 {
     let length = live * LINE_BYTES;
     if text.len() < length {
-        return Number::Refused(Refusal::TextLength);
+        return Err(Refusal::TextLength);
     }
     write_lines(table_length, reference_count, location, text);
-    Number::Is(length)
+    Ok(length)
 }

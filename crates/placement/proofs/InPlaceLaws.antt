@@ -1,16 +1,15 @@
 -- A step of compaction on the elements and places where they stand: zeros are filled in at the write position, elements are copied
--- down from further up in the same list, and one place is set. Reading what is already partly overwritten is reading what stood
--- there before, since writing stays behind reading.
+-- down from further up in the same list, and one place is set.
 use Rattle.std.specs.Prelude.{Bool, ◌≡◌, get_or, set}
 use Rattle.std.proofs.Math.Bool.{true, false}
 use mathlib.Core.List.{List, ◌++◌, map-id}
 use Rattle.std.proofs.Math.Path.{refl, sym, ap}
-use Rattle.std.proofs.Common.{◌∙◌, le_of_lt, le_of_eq, arith, le-leb, length-drop, get_or-append-add, get_or-drop, take_all, take_at, drop-drop}
-use Prim.Native.Nat.{ℕ, suc, ◌+◌, ◌*◌, ◌-◌, ◌/◌, ◌≤◌, ◌<◌}
+use Rattle.std.proofs.Common.{◌∙◌, le_of_eq, arith, le-leb, take_all, take_at, drop-drop}
+use Prim.Native.Nat.{ℕ, ◌+◌, ◌*◌, ◌-◌, ◌/◌, ◌≤◌, ◌<◌}
 use Rattle.std.proofs.lemmas.Bool.{lt-leb}
 use Rattle.std.proofs.Math.ListN.{length, take, drop, replicate, length-append}
-use Rattle.std.proofs.lemmas.List.{length-replicate, get_or-replicate}
-use Rattle.std.proofs.Math.Seq.{paste, paste-suc, length_paste_head, drop-append-add}
+use Rattle.std.proofs.lemmas.List.{length-replicate}
+use Rattle.std.proofs.Math.Seq.{paste, drop-append-add}
 use Rattle.placement.specs.Alignment.{zeros_before}
 use Rattle.placement.specs.Compaction.{nothing_written, holds, moved, settled, copied_down}
 use Rattle.placement.specs.MovedLaws.{olds, moved_each, places_next}
@@ -20,29 +19,6 @@ use Rattle.placement.specs.Steps.{Progress, taken, step}
 use Rattle.placement.specs.InPlace.{copied_within, filled}
 
 module _ {E : Type 0} where
-  -- one element more of a copy, read from what the copy has left so far
-  pub copy_turn : (at from n : ℕ) (now : List E) (d : E) → at ≤ from → from + n < length now
-      → set (copied_within at from n now) (at + n) (get_or (copied_within at from n now) (from + n) d) ≡ copied_within at from (suc n) now
-  copy_turn at from n now d h k =
-      let front : List E = take at now ++ take n (drop from now) in
-      let left : n < length (drop from now) = simp length-drop (omega arith) in
-      let counted : length front ≡ at + n = length_paste_head now at (drop from now) n (omega arith) (le_of_lt left) in
-      let further : from + n ≡ length front + (from - at) = omega arith in
-      let read : get_or (copied_within at from n now) (from + n) d ≡ get_or (drop from now) n d =
-      ap (λ (m : ℕ). get_or (copied_within at from n now) m d) further
-      ∙ get_or-append-add front (drop (at + n) now) (from - at) d
-      ∙ get_or-drop (at + n) now (from - at) d
-      ∙ ap (λ (m : ℕ). get_or now m d) (let e : at + n + (from - at) ≡ from + n = omega arith in e)
-      ∙ sym (get_or-drop from now n d) in
-      ap (set (copied_within at from n now) (at + n)) read ∙ paste-suc now at (drop from now) n d (omega arith) left
-
-  -- one zero more
-  pub fill_turn : (zero_element : E) (at n m : ℕ) (now : List E) → n < m → at + n < length now
-      → set (paste now at (replicate m zero_element) n) (at + n) zero_element ≡ paste now at (replicate m zero_element) (suc n)
-  fill_turn zero_element at n m now h k =
-      ap (set (paste now at (replicate m zero_element) n) (at + n)) (sym (get_or-replicate m n zero_element zero_element h))
-      ∙ paste-suc now at (replicate m zero_element) n zero_element k (rw length-replicate h)
-
   module _ (elements front : List E) (free : ℕ) (counted : length front ≡ free) where
     -- reading from the write position on
     read_rest : (from : ℕ) → free ≤ from → drop from (front ++ drop free elements) ≡ drop from elements

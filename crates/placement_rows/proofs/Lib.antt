@@ -1,4 +1,4 @@
-pub mod Turns
+pub mod Parts
 pub mod Runs
 pub mod OneRun
 pub mod Scanning

@@ -1,4 +1,5 @@
 pub mod Layable
+pub mod Shapes
 pub mod Compactable
 pub mod IndexTable
 pub mod OnePass

@@ -7,7 +7,8 @@ ghost use Rattle.placement_rows.specs.OnePass.{Tabled};
 
 use super::NO_INDEX;
 use super::index_table::index_places;
-use super::one_pass::{Shape, scan_places};
+use super::one_pass::scan_places;
+use super::shape::Shape;
 use terms::FloatBits;
 
 // `index_at` has an entry for every place that a point can have.
@@ -25,55 +26,17 @@ fn compact_with(
     scan_places(store, location, index_at, shape, start_free_region)
 }
 
-fn compact_256(
+// The table is local, with room for PLACES places.
+fn compact_sized<const PLACES: usize>(
     store: &mut [FloatBits],
     location: &mut [u16],
     shape: Shape,
     start_free_region: usize,
 ) -> usize
-    requires { Compactable shape.dimensions shape.base location.old start_free_region (length store.old) × (start_free_region / shape.base ≤ 256) }
+    requires { Compactable shape.dimensions shape.base location.old start_free_region (length store.old) × (start_free_region / shape.base ≤ PLACES) × (PLACES ≤ 65535) }
     ensures { layout store.new location.new result ≡ compacted 0 shape.dimensions shape.base shape.rotation store.old location.old start_free_region }
 {
-    let mut index_at = [NO_INDEX; 256];
-    compact_with(&mut index_at, store, location, shape, start_free_region)
-}
-
-fn compact_1024(
-    store: &mut [FloatBits],
-    location: &mut [u16],
-    shape: Shape,
-    start_free_region: usize,
-) -> usize
-    requires { Compactable shape.dimensions shape.base location.old start_free_region (length store.old) × (start_free_region / shape.base ≤ 1024) }
-    ensures { layout store.new location.new result ≡ compacted 0 shape.dimensions shape.base shape.rotation store.old location.old start_free_region }
-{
-    let mut index_at = [NO_INDEX; 1024];
-    compact_with(&mut index_at, store, location, shape, start_free_region)
-}
-
-fn compact_4096(
-    store: &mut [FloatBits],
-    location: &mut [u16],
-    shape: Shape,
-    start_free_region: usize,
-) -> usize
-    requires { Compactable shape.dimensions shape.base location.old start_free_region (length store.old) × (start_free_region / shape.base ≤ 4096) }
-    ensures { layout store.new location.new result ≡ compacted 0 shape.dimensions shape.base shape.rotation store.old location.old start_free_region }
-{
-    let mut index_at = [NO_INDEX; 4096];
-    compact_with(&mut index_at, store, location, shape, start_free_region)
-}
-
-fn compact_16384(
-    store: &mut [FloatBits],
-    location: &mut [u16],
-    shape: Shape,
-    start_free_region: usize,
-) -> usize
-    requires { Compactable shape.dimensions shape.base location.old start_free_region (length store.old) × (start_free_region / shape.base ≤ 16384) }
-    ensures { layout store.new location.new result ≡ compacted 0 shape.dimensions shape.base shape.rotation store.old location.old start_free_region }
-{
-    let mut index_at = [NO_INDEX; 16384];
+    let mut index_at = [NO_INDEX; PLACES];
     compact_with(&mut index_at, store, location, shape, start_free_region)
 }
 
@@ -88,18 +51,19 @@ fn compact_whole(
 {
     let places = start_free_region / shape.base;
     if places <= 256 {
-        return compact_256(store, location, shape, start_free_region);
+        return compact_sized::<256>(store, location, shape, start_free_region);
     }
     if places <= 1024 {
-        return compact_1024(store, location, shape, start_free_region);
+        return compact_sized::<1024>(store, location, shape, start_free_region);
     }
     if places <= 4096 {
-        return compact_4096(store, location, shape, start_free_region);
+        return compact_sized::<4096>(store, location, shape, start_free_region);
     }
-    compact_16384(store, location, shape, start_free_region)
+    compact_sized::<16384>(store, location, shape, start_free_region)
 }
 
 // Answers the new free start. Only the first `table_length` entries of the table are points.
+#[tactic(auto, unfolding(crate::specs::Compactable::compacted_table))]
 pub fn compact(
     store: &mut [FloatBits],
     location: &mut [u16],

@@ -2,20 +2,12 @@
 ghost use Rattle.std.specs.Prelude.{◌≡◌, ◌+◌, ◌*◌, ◌^◌, ◌<◌, ◌≤◌, length};
 ghost use Rattle.placement.specs.Copying.{turn, turned, copied};
 
+use super::shape::Shape;
 use super::words::copy_from;
 use terms::FloatBits;
 
-pub fn turned_by(rotation: bool, dimensions: usize, base: usize, place: usize) -> usize
-    requires { (0 < dimensions) × (place * base < 2 ^ 64) }
-    ensures { (result ≡ turn rotation dimensions base place) × (result ≤ dimensions) }
-{
-    if rotation {
-        return place * base % dimensions;
-    }
-    0
-}
-
 // The row's last words come first: two straight copies.
+#[tactic(auto, using(crate::proofs::Runs::turned_copied))]
 fn copy_turned(row: &[FloatBits], out: &mut [FloatBits], last: usize, others: usize)
     requires { (length row.now ≡ last + others) × (length out.old ≡ last + others) }
     ensures { out.new ≡ turned (last + others) last row.now }
@@ -24,20 +16,28 @@ fn copy_turned(row: &[FloatBits], out: &mut [FloatBits], last: usize, others: us
     copy_from(out, last, &row[..others]);
 }
 
-pub fn copy(
-    store: &[FloatBits],
-    out: &mut [FloatBits],
-    rotation: bool,
-    dimensions: usize,
-    base: usize,
-    place: usize,
-)
-    requires { (0 < dimensions) × (length out.old ≡ dimensions) × (place * base + dimensions ≤ length store.now) }
-    ensures { out.new ≡ copied rotation dimensions base place store.now }
-{
-    let t = turned_by(rotation, dimensions, base, place);
-    let others = dimensions - t;
-    let start = place * base;
-    let end = start + dimensions;
-    copy_turned(&store[start..end], out, t, others);
+impl Shape {
+    // How many of a row's last words its copy begins with.
+    #[tactic(auto, unfolding(placement::specs::Copying::turn))]
+    pub fn turn_at(self, place: usize) -> usize
+        requires { (0 < self.dimensions) × (place * self.base < 2 ^ 64) }
+        ensures { (result ≡ turn self.rotation self.dimensions self.base place) × (result ≤ self.dimensions) }
+    {
+        if self.rotation {
+            return place * self.base % self.dimensions;
+        }
+        0
+    }
+
+    #[tactic(auto, using(crate::proofs::Runs::copy_turned))]
+    pub fn copy(self, store: &[FloatBits], out: &mut [FloatBits], place: usize)
+        requires { (0 < self.dimensions) × (length out.old ≡ self.dimensions) × (place * self.base + self.dimensions ≤ length store.now) }
+        ensures { out.new ≡ copied self.rotation self.dimensions self.base place store.now }
+    {
+        let t = self.turn_at(place);
+        let others = self.dimensions - t;
+        let start = place * self.base;
+        let end = start + self.dimensions;
+        copy_turned(&store[start..end], out, t, others);
+    }
 }

@@ -3,9 +3,9 @@ ghost use Rattle.std.specs.Prelude.{◌≡◌, ◌-◌, ◌≤◌, length};
 ghost use Rattle.placement.specs.Growth.{grown};
 ghost use Rattle.placement.specs.InPlace.{filled};
 
-use super::words::fill;
 use terms::{EMPTY_PLACE, FloatBits};
 
+#[tactic(auto, unfolding(placement::specs::Growth::grown))]
 pub fn grown_length(length: usize, least: usize, limit: usize) -> usize
     requires { length ≤ limit }
     ensures { result ≡ grown length least limit }
@@ -19,23 +19,12 @@ pub fn grown_length(length: usize, least: usize, limit: usize) -> usize
     }
 }
 
-pub fn fill_table(table: &mut [u16], at: usize, end: usize, entry: u16)
-    requires { (at ≤ end) × (end ≤ length table.old) }
-    ensures { table.new ≡ filled entry at (end - at) table.old }
-{
-    let mut i = at;
-    while i < end {
-        table[i] = entry;
-        i += 1;
-    }
-}
-
 // The store's new words are 0.0.
 pub fn grow_store(store: &mut [FloatBits], old: usize, new: usize)
     requires { (old ≤ new) × (new ≤ length store.old) }
     ensures { store.new ≡ filled 0 old (new - old) store.old }
 {
-    fill(store, old, new, 0);
+    store[old..new].fill(0);
 }
 
 // New indices have count 0 and no place.
@@ -44,6 +33,6 @@ pub fn grow_table(reference_count: &mut [u16], location: &mut [u16], old: usize,
     ensures counts { reference_count.new ≡ filled 0 old (new - old) reference_count.old }
     ensures places { location.new ≡ filled 65535 old (new - old) location.old }
 {
-    fill_table(reference_count, old, new, 0);
-    fill_table(location, old, new, EMPTY_PLACE);
+    reference_count[old..new].fill(0);
+    location[old..new].fill(EMPTY_PLACE);
 }

@@ -12,12 +12,9 @@ pub fn index_places(location: &[u16], index_at: &mut [u16])
     requires inside { (i : ℕ) → Live location.now i → slice_index_or location.now i 65535 < length index_at.old }
     ensures { Indexed location.now index_at.new (length location.now) }
 {
-    let mut i = 0;
-    while i < location.len() {
-        let place = location[i];
-        if place != EMPTY_PLACE {
-            index_at[place as usize] = i as u16;
+    for (i, place) in location.iter().enumerate() {
+        if *place != EMPTY_PLACE {
+            index_at[*place as usize] = i as u16;
         }
-        i += 1;
     }
 }

@@ -15,6 +15,7 @@ pub struct LaidRow {
 }
 
 // `joined` is what `row_joins` says: then only the row's last base words are written.
+#[tactic(auto, using(crate::proofs::Runs::laid_whole, crate::proofs::Runs::laid_joined), unfolding(placement::specs::Laying::laid_as, placement::specs::Laying::laid_free, placement::specs::Laying::written_count))]
 pub fn lay(
     store: &mut [FloatBits],
     row: &[FloatBits],

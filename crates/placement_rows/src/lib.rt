@@ -12,16 +12,17 @@ mod laying;
 mod one_pass;
 mod overlap;
 mod rows;
+mod shape;
 mod words;
 
 pub use compaction::compact;
-pub use copying::{copy, turned_by};
-pub use growth::{fill_table, grow_store, grow_table, grown_length};
+pub use growth::{grow_store, grow_table, grown_length};
 pub use laying::{LaidRow, lay};
-pub use one_pass::Shape;
 pub use overlap::{ready_to_copy, row_joins};
 pub use rows::{head, move_window, row};
-pub use words::{copy_from, fill};
+pub use shape::Shape;
+pub use words::copy_from;
 
 // The index at a place where no point stands.
+// Kept: sixteen bits an entry, where an Option would take twice that of the stack.
 const NO_INDEX: u16 = 65535;

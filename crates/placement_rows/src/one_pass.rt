@@ -8,16 +8,9 @@ ghost use Rattle.placement_rows.specs.Compactable.{layout};
 ghost use Rattle.placement_rows.specs.OnePass.{run_of, Carried, Copyable, Ready, Scannable, met, scan, state};
 
 use super::NO_INDEX;
-use super::words::{copy_down, fill};
+use super::shape::Shape;
+use super::words::copy_down;
 use terms::FloatBits;
-
-// How points lie in the store.
-#[derive(Clone, Copy)]
-pub struct Shape {
-    pub dimensions: usize,
-    pub base: usize,
-    pub rotation: bool,
-}
 
 // The write position, and the end of what was read. Both divided by base are carried along, so that no point asks for a division.
 #[derive(Clone, Copy)]
@@ -87,7 +80,7 @@ fn copy_run(
 {
     let from = run.from;
     let at = free + run.zeros;
-    fill(store, free, at, 0);
+    store[free..at].fill(0);
     copy_down(store, at, from, end - from);
     location[index] = run.place as u16;
     at + (end - from)
@@ -135,8 +128,7 @@ pub fn scan_places(
         free_place: 0,
         read_place: 0,
     };
-    let mut place = 0;
-    while place < places {
+    for place in 0..places {
         let index = index_at[place];
         if index != NO_INDEX {
             done = take_point(
@@ -149,7 +141,6 @@ pub fn scan_places(
                 done,
             );
         }
-        place += 1;
     }
     done.free
 }

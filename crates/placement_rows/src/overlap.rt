@@ -9,6 +9,7 @@ use float_bits::rows_equal;
 use terms::FloatBits;
 
 // Of the row only the first `extra` words are looked at.
+#[tactic(auto, unfolding(placement::specs::Overlap::overlaps))]
 pub fn ready_to_copy(
     store: &[FloatBits],
     row: &[FloatBits],
@@ -30,6 +31,7 @@ pub fn ready_to_copy(
 }
 
 // The same test while the window is not moved yet, of the row that is to be laid.
+#[tactic(auto, using(crate::proofs::Runs::overlaps_head))]
 pub fn row_joins<'a>(
     store: &[FloatBits],
     window: &'a [FloatBits],

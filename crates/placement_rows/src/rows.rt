@@ -6,6 +6,7 @@ use super::words::{copy_down, copy_from};
 use terms::FloatBits;
 
 // The window, moved already, or the caller's own point.
+#[tactic(auto, unfolding(placement::specs::Row::row_to_lay))]
 pub fn row<'a>(
     window: &'a [FloatBits],
     point: &'a [FloatBits],
@@ -22,6 +23,7 @@ pub fn row<'a>(
 }
 
 // The first words of the row to be laid, while the window is not moved yet: whether the row fits is judged before the move.
+#[tactic(auto, using(crate::proofs::Runs::moved_head), unfolding(placement::specs::Row::row_to_lay))]
 pub fn head<'a>(
     window: &'a [FloatBits],
     point: &'a [FloatBits],
@@ -40,6 +42,7 @@ pub fn head<'a>(
 }
 
 // The window drops its first entries and gains the point. Only the first `dimensions` entries are the window.
+#[tactic(auto, using(crate::proofs::Runs::window_moved_lem))]
 pub fn move_window(window: &mut [FloatBits], point: &[FloatBits], dimensions: usize)
     requires { (length point.now ≤ dimensions) × (dimensions ≤ length window.old) }
     ensures { window.new ≡ moved_window (length point.now) (take dimensions window.old) point.now ++ drop dimensions window.old }

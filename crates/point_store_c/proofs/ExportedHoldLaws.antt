@@ -1,9 +1,10 @@
 -- From what a call of the hold ensures to what the exported call owes, for any of the definitions f.
-use Rattle.std.specs.Prelude.{ℕ, ◌≤◌, ◌<◌, Bool, true, false, ◌&&◌, ◌≡◌, leb, ltb, length}
+use Rattle.std.specs.Prelude.{Result, ℕ, ◌≤◌, ◌<◌, Bool, true, false, ◌&&◌, ◌≡◌, leb, ltb, length}
 use mathlib.Core.List.{List, []}
 use Rattle.std.proofs.Common.{sym, ◌∙◌}
 use Rattle.std.proofs.Math.Path.{ap}
 use borrow.Author.Tests.{le-leb, lt-leb}
+use Rattle.terms.specs.declared.Refusal.{Refusal}
 use Rattle.store_definitions.specs.declared.Shape.{Shape}
 use Rattle.store_definitions.specs.Answers.{Answer, refused, Output, output}
 use Rattle.store_definitions.specs.Bounds.{bounds_hold, start_allowed}
@@ -11,7 +12,7 @@ use Rattle.store_definitions.specs.Memory.{Memory}
 use Rattle.hold_definitions.specs.declared.Hold.{Hold}
 use Rattle.hold_definitions.specs.Answers.{HoldOutcome, hold_outcome}
 use Rattle.hold_definitions.specs.Memory.{HoldMemory, PointHold, point_hold}
-use Rattle.hold_definitions.specs.Opening.{hold_open_spec}
+use Rattle.hold_definitions.specs.Opening.{hold_open_spec, hold_opened}
 use Rattle.hold_definitions.specs.WellFormed.{width_allowed}
 use Rattle.point_store_c.specs.HoldRecords.{hold_in, hold_recorded}
 use Rattle.point_store_c.proofs.HoldRecordLaws.{hold_record_kept}
@@ -45,28 +46,13 @@ module _ (words : List ℕ) (m : HoldMemory ℕ) (h : Hold) (read_in : h ≡ hol
       ap (λ (r : Read). written r.value out) e
       ∙ ap exported_output (ensures ∙ ap (λ (t : Hold). f (point_hold t m)) read_in)
 
--- a record too short, by the code's tests
-module _ (s : Shape) (width : ℕ) (within : Bool) (e : within ≡ bounds_hold s.dimensions s.shingle_size s.capacity) where
-  module _ (t : (within && (leb 1 s.initial_capacity && leb s.initial_capacity s.capacity)) ≡ true) where
-    pub short_wide : (leb 1 width && ltb width s.capacity) ≡ true → 1 ≡ short_hold s width
-    unfolding short_hold start_allowed width_allowed
-    short_wide w = rw (sym e, t, w)
-
-    pub short_narrow : (leb 1 width && ltb width s.capacity) ≡ false → 15 ≡ short_hold s width
-    unfolding short_hold start_allowed width_allowed
-    short_narrow w = rw (sym e, t, w)
-
-  pub short_shape : (within && (leb 1 s.initial_capacity && leb s.initial_capacity s.capacity)) ≡ false → 2 ≡ short_hold s width
-  unfolding short_hold start_allowed
-  short_shape t = rw (sym e, t)
-
 module _ (words : List ℕ) (s asked : Shape) (read_in : s ≡ asked) (width : ℕ) (text : List ℕ) (m : HoldMemory ℕ) where
   pub hold_open_short : (n : ℕ) → length words < 41 → n ≡ short_hold s width → hold_exported n words [] m ≡ hold_exported_opening words asked width text m
   unfolding hold_exported_opening
   hold_open_short n l e = rw (lt-leb 41 (length words) l, e, read_in)
 
-  pub hold_open_long : (a : Answer) (h : Hold) (m' : HoldMemory ℕ) (n : ℕ) (words' : List ℕ) → 41 ≤ length words → hold_outcome a (point_hold h m') ≡ hold_open_spec 0 s width text m → (n ≡ returned a) × (words' ≡ hold_opened_words words a h) → hold_exported n words' [] m' ≡ hold_exported_opening words asked width text m
+  pub hold_open_long : (answer : Result Hold Refusal) (m' : HoldMemory ℕ) (n : ℕ) (words' : List ℕ) → 41 ≤ length words → hold_opened answer m' ≡ hold_open_spec 0 s width text m → hold_exported n words' [] m' ≡ hold_opened_as words (hold_opened answer m') → hold_exported n words' [] m' ≡ hold_exported_opening words asked width text m
   unfolding hold_exported_opening
-  hold_open_long a h m' n words' l ensures e =
-      rw (e.0, e.1, le-leb 41 (length words) l)
-      (ap (hold_opened_as words) (ensures ∙ ap (λ (k : Shape). hold_open_spec 0 k width text m) read_in))
+  hold_open_long answer m' n words' l ensures e =
+      rw (le-leb 41 (length words) l)
+      (e ∙ ap (hold_opened_as words) (ensures ∙ ap (λ (k : Shape). hold_open_spec 0 k width text m) read_in))

@@ -1,10 +1,11 @@
 -- From what a call of the product ensures to what the exported call owes.
-use Rattle.std.specs.Prelude.{ℕ, ◌≤◌, ◌<◌, Bool, true, false, ◌&&◌, ◌≡◌, leb, length}
+use Rattle.std.specs.Prelude.{Result, ℕ, ◌≤◌, ◌<◌, Bool, true, false, ◌&&◌, ◌≡◌, leb, length}
 use Rattle.std.proofs.Common.{arith, sym, ◌∙◌}
 use mathlib.Core.List.{List, []}
 use Rattle.std.proofs.Math.Path.{ap}
 use borrow.Author.Tests.{le-leb, lt-leb}
 use Rattle.terms.specs.Below.{both}
+use Rattle.terms.specs.declared.Refusal.{Refusal}
 use Rattle.store_definitions.specs.declared.Shape.{Shape}
 use Rattle.store_definitions.specs.Answers.{Answer, refused, Output, output}
 use Rattle.store_definitions.specs.Bounds.{bounds_hold, start_allowed}
@@ -14,7 +15,8 @@ use Rattle.probes_definitions.specs.declared.Probes.{Probes}
 use Rattle.probes_definitions.specs.Answers.{ProbesOutcome, probes_outcome}
 use Rattle.probes_definitions.specs.Memory.{PointProbes, point_probes}
 use Rattle.probes_definitions.specs.WellFormed.{eight_probes}
-use Rattle.probes_definitions.specs.Opening.{probes_open_spec}
+use Rattle.probes_definitions.specs.Opening.{probes_open_spec, probes_opened}
+use Rattle.store_definitions.specs.Opening.{shape_allowed}
 use Rattle.point_store_c.specs.ProbesRecords.{probes_in, probes_recorded}
 use Rattle.point_store_c.proofs.ProbesRecordLaws.{probes_record_kept}
 use Rattle.point_store_c.specs.ExportedStore.{Read, read, exported_reading, written, exported_output, returned, exported}
@@ -39,37 +41,18 @@ module _ (words : List ℕ) (m : Memory ℕ) (p : Probes) (read_in : p ≡ probe
       ap (λ (r : Read). written r.value out) e
       ∙ ap exported_output (ensures ∙ ap (λ (t : Probes). f (point_probes t m)) read_in)
 
--- a record too short, by the code's tests
-module _ (s : Shape) (within : Bool) (e : within ≡ bounds_hold s.dimensions s.shingle_size s.capacity) where
-  abbrev eight : Bool
-  eight = eight_probes s.dimensions s.shingle_size s.internal_shingling
-
-  abbrev shaped : Bool
-  shaped = within && (leb 1 s.initial_capacity && leb s.initial_capacity s.capacity)
-
-  pub short_positive : shaped ≡ true → 0 < s.shingle_size
-  short_positive t =
-      omega (arith, (in_bounds s.dimensions s.shingle_size s.capacity (sym e ∙ (both within (leb 1 s.initial_capacity && leb s.initial_capacity s.capacity) t).0)).shingle_least)
-
-  pub short_eight : shaped ≡ true → eight ≡ true → 1 ≡ short_probes s
-  unfolding short_probes start_allowed
-  short_eight t f = rw (sym e, t, f)
-
-  pub short_other : shaped ≡ true → eight ≡ false → 2 ≡ short_probes s
-  unfolding short_probes start_allowed
-  short_other t f = rw (sym e, t, f)
-
-  pub short_shape : shaped ≡ false → 2 ≡ short_probes s
-  unfolding short_probes start_allowed
-  short_shape t = rw (sym e, t)
+-- within the bounds a shingle has a point
+pub shingled : (s : Shape) → shape_allowed s ≡ true → 0 < s.shingle_size
+shingled s e =
+    omega (arith, (in_bounds s.dimensions s.shingle_size s.capacity (both (bounds_hold s.dimensions s.shingle_size s.capacity) (start_allowed s.initial_capacity s.capacity) e).0).shingle_least)
 
 module _ (words : List ℕ) (s asked : Shape) (read_in : s ≡ asked) (text : List ℕ) (m : Memory ℕ) where
   pub probes_open_short : (n : ℕ) → length words < 47 → n ≡ short_probes s → exported n words [] m ≡ probes_exported_opening words asked text m
   unfolding probes_exported_opening
   probes_open_short n l e = rw (lt-leb 47 (length words) l, e, read_in)
 
-  pub probes_open_long : (a : Answer) (p : Probes) (m' : Memory ℕ) (n : ℕ) (words' : List ℕ) → 47 ≤ length words → probes_outcome a (point_probes p m') ≡ probes_open_spec 0 s text m → (n ≡ returned a) × (words' ≡ probes_opened_words words a p) → exported n words' [] m' ≡ probes_exported_opening words asked text m
+  pub probes_open_long : (answer : Result Probes Refusal) (m' : Memory ℕ) (n : ℕ) (words' : List ℕ) → 47 ≤ length words → probes_opened answer m' ≡ probes_open_spec 0 s text m → exported n words' [] m' ≡ probes_opened_as words (probes_opened answer m') → exported n words' [] m' ≡ probes_exported_opening words asked text m
   unfolding probes_exported_opening
-  probes_open_long a p m' n words' l ensures e =
-      rw (e.0, e.1, le-leb 47 (length words) l)
-      (ap (probes_opened_as words) (ensures ∙ ap (λ (k : Shape). probes_open_spec 0 k text m) read_in))
+  probes_open_long answer m' n words' l ensures e =
+      rw (le-leb 47 (length words) l)
+      (e ∙ ap (probes_opened_as words) (ensures ∙ ap (λ (k : Shape). probes_open_spec 0 k text m) read_in))

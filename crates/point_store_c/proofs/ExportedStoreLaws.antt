@@ -85,16 +85,6 @@ inc_keeps p i l = carried (and_then (form_decided p) (inc_test p i l))
     carried go = raised_keeps p.header.store_labels
     carried (refuse n) = refl
 
--- a record too short, by the code's test
-module _ (h : Shape) (within : Bool) (e : within ≡ bounds_hold h.dimensions h.shingle_size h.capacity) where
-  pub short_allowed : (within && (leb 1 h.initial_capacity && leb h.initial_capacity h.capacity)) ≡ true → 1 ≡ short_record h
-  unfolding short_record start_allowed
-  short_allowed t = rw (sym e, t)
-
-  pub short_refused : (within && (leb 1 h.initial_capacity && leb h.initial_capacity h.capacity)) ≡ false → 2 ≡ short_record h
-  unfolding short_record start_allowed
-  short_refused t = rw (sym e, t)
-
 module _ (words : List ℕ) (h asked : Shape) (read_in : h ≡ asked) (text : List ℕ) (m : Memory ℕ) where
   pub open_short : (n : ℕ) → length words < 39 → n ≡ short_record h → exported n words [] m ≡ exported_opening words asked text m
   unfolding exported_opening

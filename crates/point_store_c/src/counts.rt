@@ -3,13 +3,13 @@ ghost use Rattle.std.specs.Prelude.{◌≡◌, [], ◌∷◌};
 ghost use Rattle.store_definitions.specs.Counting.{inc_spec, dec_spec, adjust_spec, count_spec, live_number_spec, free_start_spec};
 ghost use Rattle.store_definitions.specs.Lent.{held};
 ghost use Rattle.store_definitions.specs.Memory.{point_store};
-ghost use Rattle.store_adjust_pairs.specs.Records.{pairings_of};
+ghost use Rattle.store_adjust.specs.Pairs.{pairings_of};
 ghost use Rattle.point_store_c.specs.ExportedStore.{exported, exported_call, read, exported_reading};
 ghost use Rattle.point_store_c.specs.Records.{store_in};
 
-use crate::answers::{adjust_out, done_number, number_out};
-use crate::record::{lent_store_in, store_in, store_out};
-use store_definitions::Pair;
+use crate::answers::{adjusted_out, done_number, number_out};
+use crate::record::{store_in, store_out};
+use store_definitions::{Pair, Tables};
 use terms::{LabelIndex, PointIndex};
 
 #[unsafe(no_mangle)]
@@ -35,10 +35,10 @@ pub extern "C" fn ps_inc(
 ) -> u64
     ensures { exported result words.now [] (held store.now last_known_shingle.now reference_count.new location.now index_starts.now index_ends.now labels.now label_attributes.now label_count.new label_starts.now label_ends.now attributes.now attribute_count.new attribute_starts.now attribute_ends.now) ≡ exported_call words.now [] (inc_spec (point_store (store_in words.now) (held store.now last_known_shingle.now reference_count.old location.now index_starts.now index_ends.now labels.now label_attributes.now label_count.old label_starts.now label_ends.now attributes.now attribute_count.old attribute_starts.now attribute_ends.now)) index label) }
 {
-    let s = store_in(words);
+    let mut s = store_in(words);
     let index = PointIndex(index);
     let label = LabelIndex(label);
-    let result = store_counts::inc(
+    let answer = store_counts::inc(
         s,
         store,
         last_known_shingle,
@@ -58,7 +58,6 @@ pub extern "C" fn ps_inc(
         index,
         label,
     );
-    let answer = result.answer;
     done_number(answer)
 }
 
@@ -85,11 +84,11 @@ pub extern "C" fn ps_dec(
 ) -> u64
     ensures { exported result words.new [] (held store.now last_known_shingle.now reference_count.new location.new index_starts.new index_ends.new labels.now label_attributes.now label_count.new label_starts.new label_ends.new attributes.now attribute_count.new attribute_starts.new attribute_ends.new) ≡ exported_call words.old [] (dec_spec (point_store (store_in words.old) (held store.now last_known_shingle.now reference_count.old location.old index_starts.old index_ends.old labels.now label_attributes.now label_count.old label_starts.old label_ends.old attributes.now attribute_count.old attribute_starts.old attribute_ends.old)) index label) }
 {
-    let s = store_in(words);
+    let mut s = store_in(words);
     let index = PointIndex(index);
     let label = LabelIndex(label);
-    let result = store_counts::dec(
-        s,
+    let answer = store_counts::dec(
+        &mut s,
         store,
         last_known_shingle,
         reference_count,
@@ -108,9 +107,7 @@ pub extern "C" fn ps_dec(
         index,
         label,
     );
-    let after = result.store;
-    let answer = result.answer;
-    store_out(words, after);
+    store_out(words, s);
     done_number(answer)
 }
 
@@ -138,9 +135,9 @@ pub extern "C" fn ps_adjust(
 ) -> u64
     ensures { exported result words.new (pairs_before.new ∷ []) (held store.new last_known_shingle.new reference_count.new location.new index_starts.new index_ends.new labels.new label_attributes.new label_count.new label_starts.new label_ends.new attributes.new attribute_count.new attribute_starts.new attribute_ends.new) ≡ exported_call words.old (pairs_before.old ∷ []) (adjust_spec (point_store (store_in words.old) (held store.old last_known_shingle.old reference_count.old location.old index_starts.old index_ends.old labels.old label_attributes.old label_count.old label_starts.old label_ends.old attributes.old attribute_count.old attribute_starts.old attribute_ends.old)) (pairings_of pairs.now)) }
 {
-    let s = lent_store_in(words);
-    let result = store_adjust_pairs::adjust_count(
-        s,
+    let mut s = store_in(words);
+    let answer = store_adjust_pairs::adjust_count(
+        &mut s,
         store,
         last_known_shingle,
         reference_count,
@@ -158,7 +155,8 @@ pub extern "C" fn ps_adjust(
         attribute_ends,
         pairs,
     );
-    adjust_out(words, result, pairs_before)
+    store_out(words, s);
+    adjusted_out(answer, pairs_before)
 }
 
 #[unsafe(no_mangle)]
@@ -186,10 +184,7 @@ pub extern "C" fn ps_count(
 {
     let s = store_in(words);
     let index = PointIndex(index);
-    let answer = store_counts::count(
-        s,
-        store,
-        last_known_shingle,
+    let tables = Tables::new(
         reference_count,
         location,
         index_starts,
@@ -203,8 +198,8 @@ pub extern "C" fn ps_count(
         attribute_count,
         attribute_starts,
         attribute_ends,
-        index,
     );
+    let answer = store_counts::count(s, store, last_known_shingle, tables, index);
     number_out(answer, count)
 }
 
@@ -231,10 +226,7 @@ pub extern "C" fn ps_live_number(
     ensures { read result (number.new ∷ []) ≡ exported_reading (number.old ∷ []) (live_number_spec (point_store (store_in words.now) (held store.now last_known_shingle.now reference_count.now location.now index_starts.now index_ends.now labels.now label_attributes.now label_count.now label_starts.now label_ends.now attributes.now attribute_count.now attribute_starts.now attribute_ends.now))) }
 {
     let s = store_in(words);
-    let answer = store_counts::live_number(
-        s,
-        store,
-        last_known_shingle,
+    let tables = Tables::new(
         reference_count,
         location,
         index_starts,
@@ -249,6 +241,7 @@ pub extern "C" fn ps_live_number(
         attribute_starts,
         attribute_ends,
     );
+    let answer = store_counts::live_number(s, store, last_known_shingle, tables);
     number_out(answer, number)
 }
 
@@ -275,10 +268,7 @@ pub extern "C" fn ps_free_start(
     ensures { read result (number.new ∷ []) ≡ exported_reading (number.old ∷ []) (free_start_spec (point_store (store_in words.now) (held store.now last_known_shingle.now reference_count.now location.now index_starts.now index_ends.now labels.now label_attributes.now label_count.now label_starts.now label_ends.now attributes.now attribute_count.now attribute_starts.now attribute_ends.now))) }
 {
     let s = store_in(words);
-    let answer = store_counts::free_start(
-        s,
-        store,
-        last_known_shingle,
+    let tables = Tables::new(
         reference_count,
         location,
         index_starts,
@@ -293,5 +283,6 @@ pub extern "C" fn ps_free_start(
         attribute_starts,
         attribute_ends,
     );
+    let answer = store_counts::free_start(s, store, last_known_shingle, tables);
     number_out(answer, number)
 }

@@ -1,47 +1,47 @@
 // A hold's calls. Copy, count and the other readings are the store's, on the store's words of the record.
-ghost use Rattle.std.specs.Prelude.{◌≡◌, ◌≤◌, [], ◌∷◌, length};
+ghost use Rattle.std.specs.Prelude.{ℕ, ◌≡◌, ◌≤◌, [], ◌∷◌, length};
 ghost use Rattle.float_bits.specs.Words.{words_equal};
-ghost use Rattle.store_definitions.specs.Answers.{done_means};
 ghost use Rattle.hold_definitions.specs.Adding.{hold_add_spec};
 ghost use Rattle.hold_definitions.specs.Lent.{hold_held};
-ghost use Rattle.hold_definitions.specs.Memory.{point_hold};
+ghost use Rattle.hold_definitions.specs.Memory.{HoldMemory, point_hold};
+ghost use Rattle.hold_definitions.specs.Opening.{hold_opened};
 ghost use Rattle.hold_definitions.specs.Readings.{held_spec, held_number_spec};
-ghost use Rattle.point_store_c.specs.ExportedStore.{returned, shape_in, read, exported_reading, written, exported_output};
-ghost use Rattle.point_store_c.specs.ExportedHold.{hold_exported, hold_exported_call, hold_opened_words, short_hold, hold_exported_opening};
+ghost use Rattle.point_store_c.specs.ExportedStore.{shape_in, read, exported_reading, written, exported_output};
+ghost use Rattle.point_store_c.specs.ExportedHold.{hold_exported, hold_exported_call, hold_opened_as, short_hold, hold_exported_opening};
 ghost use Rattle.point_store_c.specs.HoldRecords.{hold_in};
+ghost use Rattle.terms.specs.Refusals.{number};
 
 use crate::answers::{added_out, done_number, number_out};
 use crate::hold_record::{HOLD_WORDS, hold_in, hold_out, hold_write};
 use crate::opening::shape_in;
-use hold_definitions::HoldDoneResult;
-use store_check::bounds_hold;
-use store_definitions::{Done, Shape};
-use terms::{Refusal, refusal_number};
+use hold_definitions::Hold;
+use store_definitions::{Shape, Tables};
+use store_rows::shape_allowed;
+use terms::Refusal;
 
-// The refusal of a record that is too short: the shape is looked at first, then the width.
-fn short_hold(shape: Shape, width: usize) -> u64
-    ensures { result ≡ short_hold shape width }
+// Why a record that is too short is refused: the shape is looked at first, then the width.
+#[tactic(auto, unfolding(crate::specs::ExportedHold::short_hold, hold_definitions::specs::WellFormed::width_allowed))]
+fn short_hold(shape: Shape, width: usize) -> Refusal
+    ensures { number result ≡ short_hold shape width }
 {
-    let within = bounds_hold(shape.dimensions, shape.shingle_size, shape.capacity);
-    if within & ((1 <= shape.initial_capacity) & (shape.initial_capacity <= shape.capacity)) {
-        if (1 <= width) & (width < shape.capacity) {
-            return refusal_number(Refusal::IllFormed);
-        }
-        return refusal_number(Refusal::HoldWidth);
+    if !shape_allowed(shape) {
+        return Refusal::Shape;
     }
-    refusal_number(Refusal::Shape)
+    if (1 <= width) & (width < shape.capacity) {
+        return Refusal::IllFormed;
+    }
+    Refusal::HoldWidth
 }
 
 // A refused opening leaves the record.
-fn opened_hold_out(words: &mut [u64], res: HoldDoneResult) -> u64
+// Kept: one function for store, hold and product would take the writer of the record as a closure, and save four lines.
+fn opened_hold_out(words: &mut [u64], answer: Result<Hold, Refusal>) -> u64
     requires { 41 ≤ length words.old }
-    ensures { (result ≡ returned (done_means res.answer)) × (words.new ≡ hold_opened_words words.old (done_means res.answer) res.hold) }
+    ensures { (m : HoldMemory ℕ) → hold_exported result words.new [] m ≡ hold_opened_as words.old (hold_opened answer m) }
 {
-    let answer = res.answer;
     match answer {
-        Done::Refused(why) => refusal_number(why),
-        Done::Done => {
-            let h = res.hold;
+        Err(why) => u64::from(why),
+        Ok(h) => {
             hold_write(words, h);
             0
         }
@@ -90,7 +90,7 @@ pub extern "C" fn ps_hold_open(
         store_labels,
     );
     if words.len() < HOLD_WORDS {
-        return short_hold(shape, width);
+        return u64::from(short_hold(shape, width));
     }
     let result = hold_opening::open_hold(
         shape,
@@ -148,9 +148,9 @@ pub extern "C" fn ps_hold_add(
 ) -> u64
     ensures { hold_exported result words.new (kept.new ∷ index.new ∷ label_index.new ∷ joined.new ∷ place.new ∷ free_indices.new ∷ []) (hold_held store.new last_known_shingle.new reference_count.new location.new index_starts.new index_ends.new labels.new label_attributes.new label_count.new label_starts.new label_ends.new attributes.new attribute_count.new attribute_starts.new attribute_ends.new held_indices.new held_labels.new) ≡ hold_exported_call words.old (kept.old ∷ index.old ∷ label_index.old ∷ joined.old ∷ place.old ∷ free_indices.old ∷ []) (hold_add_spec words_equal 0 (point_hold (hold_in words.old) (hold_held store.old last_known_shingle.old reference_count.old location.old index_starts.old index_ends.old labels.old label_attributes.old label_count.old label_starts.old label_ends.old attributes.old attribute_count.old attribute_starts.old attribute_ends.old held_indices.old held_labels.old)) point.now label) }
 {
-    let h = hold_in(words);
-    let result = hold::add(
-        h,
+    let mut h = hold_in(words);
+    let answer = hold::add(
+        &mut h,
         store,
         last_known_shingle,
         reference_count,
@@ -171,9 +171,7 @@ pub extern "C" fn ps_hold_add(
         point,
         label,
     );
-    let after = result.hold;
-    let answer = result.answer;
-    hold_out(words, after);
+    hold_out(words, h);
     added_out(
         answer,
         kept,
@@ -211,10 +209,7 @@ pub extern "C" fn ps_hold_held(
     ensures { written result out.new ≡ exported_output (held_spec (point_hold (hold_in words.now) (hold_held store.now last_known_shingle.now reference_count.now location.now index_starts.now index_ends.now labels.now label_attributes.now label_count.now label_starts.now label_ends.now attributes.now attribute_count.now attribute_starts.now attribute_ends.now held_indices.now held_labels.now)) out.old) }
 {
     let h = hold_in(words);
-    let answer = hold_check::held(
-        h,
-        store,
-        last_known_shingle,
+    let tables = Tables::new(
         reference_count,
         location,
         index_starts,
@@ -228,6 +223,12 @@ pub extern "C" fn ps_hold_held(
         attribute_count,
         attribute_starts,
         attribute_ends,
+    );
+    let answer = hold_check::held(
+        h,
+        store,
+        last_known_shingle,
+        tables,
         held_indices,
         held_labels,
         out,
@@ -261,10 +262,7 @@ pub extern "C" fn ps_hold_number(
     ensures { read result (number.new ∷ []) ≡ exported_reading (number.old ∷ []) (held_number_spec (point_hold (hold_in words.now) (hold_held store.now last_known_shingle.now reference_count.now location.now index_starts.now index_ends.now labels.now label_attributes.now label_count.now label_starts.now label_ends.now attributes.now attribute_count.now attribute_starts.now attribute_ends.now held_indices.now held_labels.now))) }
 {
     let h = hold_in(words);
-    let answer = hold_check::held_number(
-        h,
-        store,
-        last_known_shingle,
+    let tables = Tables::new(
         reference_count,
         location,
         index_starts,
@@ -278,6 +276,12 @@ pub extern "C" fn ps_hold_number(
         attribute_count,
         attribute_starts,
         attribute_ends,
+    );
+    let answer = hold_check::held_number(
+        h,
+        store,
+        last_known_shingle,
+        tables,
         held_indices,
         held_labels,
     );

@@ -8,6 +8,7 @@ ghost use Rattle.point_store_c.specs.Records.{store_in};
 
 use crate::answers::{done_number, number_out};
 use crate::record::store_in;
+use store_definitions::Tables;
 use terms::LabelIndex;
 
 #[unsafe(no_mangle)]
@@ -35,10 +36,7 @@ pub extern "C" fn ps_label(
 {
     let s = store_in(words);
     let label = LabelIndex(label);
-    let answer = store_readings::label(
-        s,
-        store,
-        last_known_shingle,
+    let tables = Tables::new(
         reference_count,
         location,
         index_starts,
@@ -52,8 +50,8 @@ pub extern "C" fn ps_label(
         attribute_count,
         attribute_starts,
         attribute_ends,
-        label,
     );
+    let answer = store_readings::label(s, store, last_known_shingle, tables, label);
     number_out(answer, code)
 }
 
@@ -82,10 +80,7 @@ pub extern "C" fn ps_attribute(
 {
     let s = store_in(words);
     let label = LabelIndex(label);
-    let answer = store_readings::attribute(
-        s,
-        store,
-        last_known_shingle,
+    let tables = Tables::new(
         reference_count,
         location,
         index_starts,
@@ -99,8 +94,8 @@ pub extern "C" fn ps_attribute(
         attribute_count,
         attribute_starts,
         attribute_ends,
-        label,
     );
+    let answer = store_readings::attribute(s, store, last_known_shingle, tables, label);
     number_out(answer, class)
 }
 
@@ -129,10 +124,7 @@ pub extern "C" fn ps_attribute_vec(
 {
     let s = store_in(words);
     let label = LabelIndex(label);
-    let answer = store_readings::attribute_vec(
-        s,
-        store,
-        last_known_shingle,
+    let tables = Tables::new(
         reference_count,
         location,
         index_starts,
@@ -146,8 +138,7 @@ pub extern "C" fn ps_attribute_vec(
         attribute_count,
         attribute_starts,
         attribute_ends,
-        label,
-        out,
     );
+    let answer = store_readings::attribute_vec(s, store, last_known_shingle, tables, label, out);
     done_number(answer)
 }

@@ -3,6 +3,7 @@
 // return value is 0 or the refusal's number, and an answer goes to lent numbers or an output slice. A refused call writes no
 // more than document 01 says: what an add refused with 10 made of the floats, the pairs before an adjust's refused one, and
 // their number.
+// Kept: a C caller passes each slice by itself, so an exported function takes each by itself.
 #![tactic(auto)]
 
 mod answers;

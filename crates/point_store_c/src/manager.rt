@@ -4,10 +4,8 @@ ghost use Rattle.std.specs.Prelude.{[], ◌∷◌, ◌≡◌, ◌≤◌, length}
 ghost use Rattle.interval_store_manager.specs.Calls.{change_spec, get_spec, release_spec, used_spec, is_empty_spec, get_capacity_spec};
 ghost use Rattle.point_store_c.specs.Exported.{manager_in, manager_out, exported, exported_opening, exported_call, read, exported_reading};
 
-use interval_store_manager::{
-    Changed, Emptiness, Got, IntervalStoreManager, Number, Opened, capacity_allowed,
-};
-use terms::{Refusal, refusal_number};
+use interval_store_manager::{IntervalStoreManager, capacity_allowed};
+use terms::Refusal;
 
 const RECORD_WORDS: usize = 2;
 
@@ -46,14 +44,13 @@ pub extern "C" fn ps_manager_new(
 {
     if words.len() < RECORD_WORDS {
         if capacity_allowed(size) {
-            return refusal_number(Refusal::IllFormed);
+            return u64::from(Refusal::IllFormed);
         }
-        return refusal_number(Refusal::ManagerCapacity);
+        return u64::from(Refusal::ManagerCapacity);
     }
-    let opened = IntervalStoreManager::new(size, starts, ends);
-    match opened {
-        Opened::Refused(why) => refusal_number(why),
-        Opened::Manager(m) => {
+    match IntervalStoreManager::new(size, starts, ends) {
+        Err(why) => u64::from(why),
+        Ok(m) => {
             manager_out(words, m);
             0
         }
@@ -69,12 +66,10 @@ pub extern "C" fn ps_manager_change_capacity(
 ) -> u64
     ensures { exported result words.new [] starts.new ends.new ≡ exported_call words.old [] (change_spec (manager_in words.old) starts.old ends.old new_capacity) }
 {
-    let result = manager_in(words).change_capacity(starts, ends, new_capacity);
-    let answer = result.answer;
-    let m = result.manager;
-    match answer {
-        Changed::Refused(why) => refusal_number(why),
-        Changed::Done => {
+    let mut m = manager_in(words);
+    match m.change_capacity(starts, ends, new_capacity) {
+        Err(why) => u64::from(why),
+        Ok(()) => {
             manager_out(words, m);
             0
         }
@@ -91,12 +86,10 @@ pub extern "C" fn ps_manager_get(
 ) -> u64
     ensures { exported result words.new (index.new ∷ free_indices.new ∷ []) starts.new ends.now ≡ exported_call words.old (index.old ∷ free_indices.old ∷ []) (get_spec (manager_in words.old) starts.old ends.now) }
 {
-    let result = manager_in(words).get(starts, ends);
-    let answer = result.answer;
-    let m = result.manager;
-    match answer {
-        Got::Refused(why) => refusal_number(why),
-        Got::Given(given) => {
+    let mut m = manager_in(words);
+    match m.get(starts, ends) {
+        Err(why) => u64::from(why),
+        Ok(given) => {
             manager_out(words, m);
             *index = given.index as u64;
             *free_indices = given.free as u64;
@@ -114,12 +107,10 @@ pub extern "C" fn ps_manager_release(
 ) -> u64
     ensures { exported result words.new [] starts.new ends.new ≡ exported_call words.old [] (release_spec (manager_in words.old) starts.old ends.old index) }
 {
-    let result = manager_in(words).release(starts, ends, index);
-    let answer = result.answer;
-    let m = result.manager;
-    match answer {
-        Changed::Refused(why) => refusal_number(why),
-        Changed::Done => {
+    let mut m = manager_in(words);
+    match m.release(starts, ends, index) {
+        Err(why) => u64::from(why),
+        Ok(()) => {
             manager_out(words, m);
             0
         }
@@ -135,10 +126,9 @@ pub extern "C" fn ps_manager_used(
 ) -> u64
     ensures { read result (used.new ∷ []) ≡ exported_reading (used.old ∷ []) (used_spec (manager_in words.now) starts.now ends.now) }
 {
-    let answer = manager_in(words).used(starts, ends);
-    match answer {
-        Number::Refused(why) => refusal_number(why),
-        Number::Is(n) => {
+    match manager_in(words).used(starts, ends) {
+        Err(why) => u64::from(why),
+        Ok(n) => {
             *used = n as u64;
             0
         }
@@ -155,10 +145,9 @@ pub extern "C" fn ps_manager_is_empty(
 ) -> u64
     ensures { read result (empty.new ∷ []) ≡ exported_reading (empty.old ∷ []) (is_empty_spec (manager_in words.now) starts.now ends.now) }
 {
-    let answer = manager_in(words).is_empty(starts, ends);
-    match answer {
-        Emptiness::Refused(why) => refusal_number(why),
-        Emptiness::Empty(b) => {
+    match manager_in(words).is_empty(starts, ends) {
+        Err(why) => u64::from(why),
+        Ok(b) => {
             *empty = b as u64;
             0
         }
@@ -174,10 +163,9 @@ pub extern "C" fn ps_manager_get_capacity(
 ) -> u64
     ensures { read result (capacity.new ∷ []) ≡ exported_reading (capacity.old ∷ []) (get_capacity_spec (manager_in words.now) starts.now ends.now) }
 {
-    let answer = manager_in(words).get_capacity(starts, ends);
-    match answer {
-        Number::Refused(why) => refusal_number(why),
-        Number::Is(n) => {
+    match manager_in(words).get_capacity(starts, ends) {
+        Err(why) => u64::from(why),
+        Ok(n) => {
             *capacity = n as u64;
             0
         }

@@ -2,7 +2,7 @@
 ghost use Rattle.std.specs.Prelude.{◌≤◌, ◌≡◌, ◌++◌, length, drop};
 ghost use Rattle.point_store_c.specs.Naming.{named, exported_name};
 
-use terms::{Refusal, refusal_number};
+use terms::Refusal;
 
 // One line of ASCII, without an end. The compiler keeps an array in pieces of 16 bytes: a text as long as whole pieces stands in the
 // archive as it reads here, for `strings` to find (`make check` looks), so spaces fill one up that is not.
@@ -13,11 +13,7 @@ fn copy_text(text: &[u8], out: &mut [u8])
     requires { length text.now ≤ length out.old }
     ensures { out.new ≡ text.now ++ drop (length text.now) out.old }
 {
-    let mut i = 0;
-    while i < text.len() {
-        out[i] = text[i];
-        i += 1;
-    }
+    out[..text.len()].copy_from_slice(text);
 }
 
 #[unsafe(no_mangle)]
@@ -25,7 +21,7 @@ pub extern "C" fn ps_name(out: &mut [u8], name_length: &mut u64) -> u64
     ensures { named result out.new name_length.new ≡ exported_name out.old name_length.old }
 {
     if out.len() < NAME.len() {
-        return refusal_number(Refusal::Length);
+        return u64::from(Refusal::Length);
     }
     copy_text(&NAME, out);
     *name_length = NAME.len() as u64;

@@ -1,13 +1,15 @@
 // Opening a store.
 ghost use Rattle.std.specs.Prelude.{◌≡◌, ◌≤◌, [], length};
-ghost use Rattle.store_definitions.specs.Answers.{done_means};
+ghost use Rattle.store_definitions.specs.Answers.{opened_means};
 ghost use Rattle.store_definitions.specs.Lent.{held};
+ghost use Rattle.store_definitions.specs.Opening.{opened_store};
+ghost use Rattle.terms.specs.Refusals.{number};
 ghost use Rattle.point_store_c.specs.ExportedStore.{returned, opened_words, exported, shape_in, short_record, exported_opening};
 
 use crate::record::{RECORD_WORDS, record_write};
-use store_check::bounds_hold;
-use store_definitions::{Done, DoneResult, Shape};
-use terms::{Refusal, refusal_number};
+use store_definitions::{Shape, Store};
+use store_rows::shape_allowed;
+use terms::Refusal;
 
 // What a flag above 1 stands for: a shape of zeros, which is outside the bounds.
 pub fn shape_in(
@@ -43,27 +45,26 @@ pub fn shape_in(
     }
 }
 
-// The refusal of a record that is too short: the shape is looked at first.
-fn short_record(shape: Shape) -> u64
-    ensures { result ≡ short_record shape }
+// Why a record that is too short is refused: the shape is looked at first.
+#[tactic(auto, unfolding(crate::specs::ExportedStore::short_record))]
+fn short_record(shape: Shape) -> Refusal
+    ensures { number result ≡ short_record shape }
 {
-    let within = bounds_hold(shape.dimensions, shape.shingle_size, shape.capacity);
-    if within & ((1 <= shape.initial_capacity) & (shape.initial_capacity <= shape.capacity)) {
-        return refusal_number(Refusal::IllFormed);
+    if shape_allowed(shape) {
+        return Refusal::IllFormed;
     }
-    refusal_number(Refusal::Shape)
+    Refusal::Shape
 }
 
 // A refused opening leaves the record.
-fn opened_out(words: &mut [u64], res: DoneResult) -> u64
+// Kept: one function for store, hold and product would take the writer of the record as a closure, and save four lines.
+fn opened_out(words: &mut [u64], answer: Result<Store, Refusal>) -> u64
     requires { 39 ≤ length words.old }
-    ensures { (result ≡ returned (done_means res.answer)) × (words.new ≡ opened_words words.old (done_means res.answer) res.store) }
+    ensures { (result ≡ returned (opened_means answer)) × (words.new ≡ opened_words words.old (opened_means answer) (opened_store answer)) }
 {
-    let answer = res.answer;
     match answer {
-        Done::Refused(why) => refusal_number(why),
-        Done::Done => {
-            let s = res.store;
+        Err(why) => u64::from(why),
+        Ok(s) => {
             record_write(words, s);
             0
         }
@@ -109,7 +110,7 @@ pub extern "C" fn ps_open(
         store_labels,
     );
     if words.len() < RECORD_WORDS {
-        return short_record(shape);
+        return u64::from(short_record(shape));
     }
     let result = store_rows::open(
         shape,

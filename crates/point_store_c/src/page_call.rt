@@ -8,6 +8,7 @@ ghost use Rattle.point_store_c.specs.Records.{store_in};
 
 use crate::answers::number_out;
 use crate::record::store_in;
+use store_definitions::Tables;
 
 #[unsafe(no_mangle)]
 pub extern "C" fn ps_page(
@@ -33,10 +34,7 @@ pub extern "C" fn ps_page(
     ensures { paged result (page_length.new ∷ []) text.new ≡ exported_page (page_length.old ∷ []) (page_spec (point_store (store_in words.now) (held store.now last_known_shingle.now reference_count.now location.now index_starts.now index_ends.now labels.now label_attributes.now label_count.now label_starts.now label_ends.now attributes.now attribute_count.now attribute_starts.now attribute_ends.now)) text.old) }
 {
     let s = store_in(words);
-    let answer = page::page(
-        s,
-        store,
-        last_known_shingle,
+    let tables = Tables::new(
         reference_count,
         location,
         index_starts,
@@ -50,7 +48,7 @@ pub extern "C" fn ps_page(
         attribute_count,
         attribute_starts,
         attribute_ends,
-        text,
     );
+    let answer = page::page(s, store, last_known_shingle, tables, text);
     number_out(answer, page_length)
 }

@@ -1,53 +1,54 @@
 // The calls of the product for the eight-probe block. Copy, count and the other readings are the store's, on the first fifteen words
 // of the record.
-ghost use Rattle.std.specs.Prelude.{◌≡◌, ◌≤◌, [], ◌∷◌, length};
+ghost use Rattle.std.specs.Prelude.{ℕ, ◌≡◌, ◌≤◌, [], ◌∷◌, length};
 ghost use Rattle.float_bits.specs.Words.{words_equal};
-ghost use Rattle.store_definitions.specs.Answers.{done_means};
 ghost use Rattle.store_definitions.specs.Lent.{held};
 ghost use Rattle.probes_definitions.specs.Memory.{point_probes};
+ghost use Rattle.probes_definitions.specs.Opening.{probes_opened};
+ghost use Rattle.store_definitions.specs.Memory.{Memory};
 ghost use Rattle.probes_definitions.specs.Setting.{set_kinds_spec};
 ghost use Rattle.probes_definitions.specs.Tallies.{tallies_spec};
-ghost use Rattle.point_store_c.specs.ExportedStore.{returned, exported, shape_in, written, exported_output};
-ghost use Rattle.point_store_c.specs.ExportedProbes.{probes_exported_call, probes_opened_words, short_probes, probes_exported_opening};
+ghost use Rattle.point_store_c.specs.ExportedStore.{exported, shape_in, written, exported_output};
+ghost use Rattle.point_store_c.specs.ExportedProbes.{probes_exported_call, probes_opened_as, short_probes, probes_exported_opening};
 ghost use Rattle.point_store_c.specs.ProbesRecords.{probes_in};
+ghost use Rattle.terms.specs.Refusals.{number};
 
 use crate::answers::{added_out, done_number};
 use crate::opening::shape_in;
 use crate::probes_record::{PROBES_WORDS, probes_in, probes_out, probes_write};
 use probes_check::eight_probes;
-use probes_definitions::ProbesDoneResult;
-use store_check::bounds_hold;
-use store_definitions::{Done, Shape};
-use terms::{Refusal, refusal_number};
+use probes_definitions::Probes;
+use store_definitions::{Shape, Tables};
+use store_rows::shape_allowed;
+use terms::Refusal;
 
-// The refusal of a record that is too short: the shape is looked at first.
-fn short_probes(shape: Shape) -> u64
-    ensures { result ≡ short_probes shape }
+// Why a record that is too short is refused: the shape is looked at first.
+#[tactic(auto, unfolding(crate::specs::ExportedProbes::short_probes))]
+fn short_probes(shape: Shape) -> Refusal
+    ensures { number result ≡ short_probes shape }
 {
-    let within = bounds_hold(shape.dimensions, shape.shingle_size, shape.capacity);
-    if within & ((1 <= shape.initial_capacity) & (shape.initial_capacity <= shape.capacity)) {
-        if eight_probes(
-            shape.dimensions,
-            shape.shingle_size,
-            shape.internal_shingling,
-        ) {
-            return refusal_number(Refusal::IllFormed);
-        }
-        return refusal_number(Refusal::Shape);
+    if !shape_allowed(shape) {
+        return Refusal::Shape;
     }
-    refusal_number(Refusal::Shape)
+    if eight_probes(
+        shape.dimensions,
+        shape.shingle_size,
+        shape.internal_shingling,
+    ) {
+        return Refusal::IllFormed;
+    }
+    Refusal::Shape
 }
 
 // A refused opening leaves the record.
-fn opened_probes_out(words: &mut [u64], res: ProbesDoneResult) -> u64
+// Kept: one function for store, hold and product would take the writer of the record as a closure, and save four lines.
+fn opened_probes_out(words: &mut [u64], answer: Result<Probes, Refusal>) -> u64
     requires { 47 ≤ length words.old }
-    ensures { (result ≡ returned (done_means res.answer)) × (words.new ≡ probes_opened_words words.old (done_means res.answer) res.probes) }
+    ensures { (m : Memory ℕ) → exported result words.new [] m ≡ probes_opened_as words.old (probes_opened answer m) }
 {
-    let answer = res.answer;
     match answer {
-        Done::Refused(why) => refusal_number(why),
-        Done::Done => {
-            let p = res.probes;
+        Err(why) => u64::from(why),
+        Ok(p) => {
             probes_write(words, p);
             0
         }
@@ -93,7 +94,7 @@ pub extern "C" fn ps_probes_open(
         store_labels,
     );
     if words.len() < PROBES_WORDS {
-        return short_probes(shape);
+        return u64::from(short_probes(shape));
     }
     let result = probes_opening::open_probes(
         shape,
@@ -148,9 +149,9 @@ pub extern "C" fn ps_probes_set(
 ) -> u64
     ensures { exported result words.new (kept.new ∷ index.new ∷ label_index.new ∷ joined.new ∷ place.new ∷ free_indices.new ∷ []) (held store.new last_known_shingle.new reference_count.new location.new index_starts.new index_ends.new labels.new label_attributes.new label_count.new label_starts.new label_ends.now attributes.new attribute_count.new attribute_starts.new attribute_ends.now) ≡ probes_exported_call words.old (kept.old ∷ index.old ∷ label_index.old ∷ joined.old ∷ place.old ∷ free_indices.old ∷ []) (set_kinds_spec words_equal 0 (point_probes (probes_in words.old) (held store.old last_known_shingle.old reference_count.old location.old index_starts.old index_ends.old labels.old label_attributes.old label_count.old label_starts.old label_ends.now attributes.old attribute_count.old attribute_starts.old attribute_ends.now)) kinds.now floats.now label) }
 {
-    let p = probes_in(words);
-    let result = probes::set_words(
-        p,
+    let mut p = probes_in(words);
+    let answer = probes::set_words(
+        &mut p,
         store,
         last_known_shingle,
         reference_count,
@@ -170,9 +171,7 @@ pub extern "C" fn ps_probes_set(
         floats,
         label,
     );
-    let after = result.probes;
-    let answer = result.answer;
-    probes_out(words, after);
+    probes_out(words, p);
     added_out(
         answer,
         kept,
@@ -208,10 +207,7 @@ pub extern "C" fn ps_probes_tallies(
     ensures { written result out.new ≡ exported_output (tallies_spec (point_probes (probes_in words.now) (held store.now last_known_shingle.now reference_count.now location.now index_starts.now index_ends.now labels.now label_attributes.now label_count.now label_starts.now label_ends.now attributes.now attribute_count.now attribute_starts.now attribute_ends.now)) out.old) }
 {
     let p = probes_in(words);
-    let answer = probes_check::tallies(
-        p,
-        store,
-        last_known_shingle,
+    let tables = Tables::new(
         reference_count,
         location,
         index_starts,
@@ -225,7 +221,7 @@ pub extern "C" fn ps_probes_tallies(
         attribute_count,
         attribute_starts,
         attribute_ends,
-        out,
     );
+    let answer = probes_check::tallies(p, store, last_known_shingle, tables, out);
     done_number(answer)
 }

@@ -7,13 +7,13 @@ ghost use Rattle.store_definitions.specs.Lent.{held};
 ghost use Rattle.store_definitions.specs.Memory.{point_store};
 ghost use Rattle.store_definitions.specs.Preview.{shingled_point_spec};
 ghost use Rattle.store_definitions.specs.Sums.{is_equal_spec, point_sum_spec};
-ghost use Rattle.store_sum_items.specs.Records.{weightings_of};
+ghost use Rattle.row_readings.specs.Items.{weightings_of};
 ghost use Rattle.point_store_c.specs.ExportedStore.{read, exported_reading, written, exported_output};
 ghost use Rattle.point_store_c.specs.Records.{store_in};
 
 use crate::answers::{done_number, equality_out};
 use crate::record::store_in;
-use store_definitions::Item;
+use store_definitions::{Item, Tables};
 use terms::PointIndex;
 
 // 1 where the row's copy and the point are equal, else 0.
@@ -43,10 +43,7 @@ pub extern "C" fn ps_is_equal(
 {
     let s = store_in(words);
     let index = PointIndex(index);
-    let answer = store_readings::is_equal(
-        s,
-        store,
-        last_known_shingle,
+    let tables = Tables::new(
         reference_count,
         location,
         index_starts,
@@ -60,9 +57,8 @@ pub extern "C" fn ps_is_equal(
         attribute_count,
         attribute_starts,
         attribute_ends,
-        index,
-        point,
     );
+    let answer = store_readings::is_equal(s, store, last_known_shingle, tables, index, point);
     equality_out(answer, equal)
 }
 
@@ -91,10 +87,7 @@ pub extern "C" fn ps_point_sum(
     ensures { written result out.new ≡ exported_output (point_sum_spec add_scaled (float_of plus_zero) (point_store (store_in words.now) (held store.now last_known_shingle.now reference_count.now location.now index_starts.now index_ends.now labels.now label_attributes.now label_count.now label_starts.now label_ends.now attributes.now attribute_count.now attribute_starts.now attribute_ends.now)) (weightings_of items.now) out.old) }
 {
     let s = store_in(words);
-    let answer = store_sum_items::point_sum(
-        s,
-        store,
-        last_known_shingle,
+    let tables = Tables::new(
         reference_count,
         location,
         index_starts,
@@ -108,9 +101,8 @@ pub extern "C" fn ps_point_sum(
         attribute_count,
         attribute_starts,
         attribute_ends,
-        items,
-        out,
     );
+    let answer = store_sum_items::point_sum(s, store, last_known_shingle, tables, items, out);
     done_number(answer)
 }
 
@@ -138,10 +130,7 @@ pub extern "C" fn ps_shingled_point(
     ensures { written result out.new ≡ exported_output (shingled_point_spec (point_store (store_in words.now) (held store.now last_known_shingle.now reference_count.now location.now index_starts.now index_ends.now labels.now label_attributes.now label_count.now label_starts.now label_ends.now attributes.now attribute_count.now attribute_starts.now attribute_ends.now)) point.now out.old) }
 {
     let s = store_in(words);
-    let answer = store_readings::shingled_point(
-        s,
-        store,
-        last_known_shingle,
+    let tables = Tables::new(
         reference_count,
         location,
         index_starts,
@@ -155,9 +144,8 @@ pub extern "C" fn ps_shingled_point(
         attribute_count,
         attribute_starts,
         attribute_ends,
-        point,
-        out,
     );
+    let answer = store_readings::shingled_point(s, store, last_known_shingle, tables, point, out);
     done_number(answer)
 }
 
@@ -186,10 +174,7 @@ pub extern "C" fn ps_missing_indices(
     ensures { written result out.new ≡ exported_output (missing_indices_spec (point_store (store_in words.now) (held store.now last_known_shingle.now reference_count.now location.now index_starts.now index_ends.now labels.now label_attributes.now label_count.now label_starts.now label_ends.now attributes.now attribute_count.now attribute_starts.now attribute_ends.now)) look_ahead values.now out.old) }
 {
     let s = store_in(words);
-    let answer = store_readings::missing_indices(
-        s,
-        store,
-        last_known_shingle,
+    let tables = Tables::new(
         reference_count,
         location,
         index_starts,
@@ -203,6 +188,12 @@ pub extern "C" fn ps_missing_indices(
         attribute_count,
         attribute_starts,
         attribute_ends,
+    );
+    let answer = store_readings::missing_indices(
+        s,
+        store,
+        last_known_shingle,
+        tables,
         look_ahead,
         values,
         out,
@@ -234,10 +225,7 @@ pub extern "C" fn ps_next_indices(
     ensures { written result out.new ≡ exported_output (next_indices_spec (point_store (store_in words.now) (held store.now last_known_shingle.now reference_count.now location.now index_starts.now index_ends.now labels.now label_attributes.now label_count.now label_starts.now label_ends.now attributes.now attribute_count.now attribute_starts.now attribute_ends.now)) look_ahead out.old) }
 {
     let s = store_in(words);
-    let answer = store_readings::next_indices(
-        s,
-        store,
-        last_known_shingle,
+    let tables = Tables::new(
         reference_count,
         location,
         index_starts,
@@ -251,6 +239,12 @@ pub extern "C" fn ps_next_indices(
         attribute_count,
         attribute_starts,
         attribute_ends,
+    );
+    let answer = store_readings::next_indices(
+        s,
+        store,
+        last_known_shingle,
+        tables,
         look_ahead,
         out,
     );

@@ -34,13 +34,6 @@ pub fn store_in(words: &[u64]) -> Store
     no_record()
 }
 
-// The same of a record that is lent mutably, by a caller that lends it again.
-pub fn lent_store_in(words: &mut [u64]) -> Store
-    ensures { (result ≡ store_in words.old) × (words.new ≡ words.old) }
-{
-    store_in(words)
-}
-
 // Of a legal record, beside its classes.
 fn store_read(words: &[u64], classes: [u8; 24]) -> Store
     requires { (39 ≤ length words.now) × (get_or words.now 8 0 < 4294967296) }

@@ -10,6 +10,7 @@ ghost use Rattle.point_store_c.specs.Records.{store_in};
 
 use crate::answers::{added_out, done_number};
 use crate::record::{store_in, store_out};
+use store_definitions::Tables;
 use terms::PointIndex;
 
 #[unsafe(no_mangle)]
@@ -41,9 +42,9 @@ pub extern "C" fn ps_add(
 ) -> u64
     ensures { exported result words.new (kept.new ∷ index.new ∷ label_index.new ∷ joined.new ∷ place.new ∷ free_indices.new ∷ []) (held store.new last_known_shingle.new reference_count.new location.new index_starts.new index_ends.new labels.new label_attributes.new label_count.new label_starts.new label_ends.now attributes.new attribute_count.new attribute_starts.new attribute_ends.now) ≡ exported_call words.old (kept.old ∷ index.old ∷ label_index.old ∷ joined.old ∷ place.old ∷ free_indices.old ∷ []) (add_spec words_equal 0 (point_store (store_in words.old) (held store.old last_known_shingle.old reference_count.old location.old index_starts.old index_ends.old labels.old label_attributes.old label_count.old label_starts.old label_ends.now attributes.old attribute_count.old attribute_starts.old attribute_ends.now)) point.now label) }
 {
-    let s = store_in(words);
-    let result = store_add::add(
-        s,
+    let mut s = store_in(words);
+    let answer = store_add::add(
+        &mut s,
         store,
         last_known_shingle,
         reference_count,
@@ -62,9 +63,7 @@ pub extern "C" fn ps_add(
         point,
         label,
     );
-    let after = result.store;
-    let answer = result.answer;
-    store_out(words, after);
+    store_out(words, s);
     added_out(
         answer,
         kept,
@@ -97,9 +96,9 @@ pub extern "C" fn ps_compact(
 ) -> u64
     ensures { exported result words.new [] (held store.new last_known_shingle.now reference_count.now location.new index_starts.now index_ends.now labels.now label_attributes.now label_count.now label_starts.now label_ends.now attributes.now attribute_count.now attribute_starts.now attribute_ends.now) ≡ exported_call words.old [] (compact_spec 0 (point_store (store_in words.old) (held store.old last_known_shingle.now reference_count.now location.old index_starts.now index_ends.now labels.now label_attributes.now label_count.now label_starts.now label_ends.now attributes.now attribute_count.now attribute_starts.now attribute_ends.now))) }
 {
-    let s = store_in(words);
-    let result = store_rows::compact(
-        s,
+    let mut s = store_in(words);
+    let answer = store_rows::compact(
+        &mut s,
         store,
         last_known_shingle,
         reference_count,
@@ -116,9 +115,7 @@ pub extern "C" fn ps_compact(
         attribute_starts,
         attribute_ends,
     );
-    let after = result.store;
-    let answer = result.answer;
-    store_out(words, after);
+    store_out(words, s);
     done_number(answer)
 }
 
@@ -147,10 +144,7 @@ pub extern "C" fn ps_copy(
 {
     let s = store_in(words);
     let index = PointIndex(index);
-    let answer = store_rows::copy(
-        s,
-        store,
-        last_known_shingle,
+    let tables = Tables::new(
         reference_count,
         location,
         index_starts,
@@ -164,8 +158,7 @@ pub extern "C" fn ps_copy(
         attribute_count,
         attribute_starts,
         attribute_ends,
-        index,
-        out,
     );
+    let answer = store_rows::copy(s, store, last_known_shingle, tables, index, out);
     done_number(answer)
 }

@@ -1,8 +1,9 @@
 -- What is decided of a set of kinds and words, from its kinds, how many words there are, and the sequence.
-use Rattle.std.specs.Prelude.{ℕ, ◌+◌, ◌≤◌, ◌<◌, Bool, not, ◌&&◌, ◌||◌, List, ◌≡◌, length, get_or, drop, ltb}
+use Rattle.std.specs.Prelude.{ℕ, Bool, not, ◌&&◌, ◌||◌, List, [], ◌∷◌, ◌≡◌, length, ltb}
+use Rattle.std.specs.List.{list_any}
 use Rattle.std.proofs.Math.Bool.{true, false, and-false}
-use Rattle.std.proofs.Math.Path.{refl, sym}
-use Rattle.std.proofs.Common.{◌∙◌, drop_of_length-le, drop-cons, add-one}
+use Rattle.std.proofs.Math.Path.{refl, sym, ap}
+use Rattle.std.proofs.Common.{◌∙◌}
 use Rattle.std.proofs.Math.Dec.{eqb}
 use borrow.Author.Tests.{eq-eqb, ne_eqb, eqb-true}
 use Rattle.interval_store_manager.specs.Calls.{Decided, go, refuse}
@@ -19,21 +20,10 @@ set_asked sequence kinds words =
     (and_then (refuse_if (not (eqb words 8)) 3)
     (and_then (refuse_if (any_above 2 kinds) 11) (refuse_if (any_above 1 kinds && eqb sequence 0) 16)))
 
--- ---- one turn of the loop
-
-pub above_turn : (n : ℕ) (ks : List ℕ) (i : ℕ) → i < length ks → any_above n (drop i ks) ≡ (ltb n (get_or ks i 0) || any_above n (drop (i + 1) ks))
+pub above_any : (n : ℕ) (ks : List ℕ) → any_above n ks ≡ list_any (λ k. ltb n k) ks
 unfolding any_above
-above_turn n ks i h = rw (drop-cons ks i 0 h, add-one i)
-
-pub above_end : (n : ℕ) (ks : List ℕ) (i : ℕ) → length ks ≤ i → false ≡ any_above n (drop i ks)
-unfolding any_above
-above_end n ks i h = rw (drop_of_length-le ks h)
-
-pub or-true : (p q : Bool) → p ≡ true → true ≡ p || q
-or-true p q e = rw e
-
-pub or-false : (p q : Bool) → p ≡ false → p || q ≡ q
-or-false p q e = rw e
+above_any n [] = refl
+above_any n (k ∷ ks) = ap (λ (b : Bool). ltb n k || b) (above_any n ks)
 
 -- ---- the ways out
 

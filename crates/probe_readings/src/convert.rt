@@ -6,6 +6,8 @@ use float_bits::word_of_float;
 use probes_definitions::Reading;
 use terms::FloatBits;
 
+// As the C interface writes it.
+// Kept: `u8::from(reading)` would not say that the number is the kind.
 fn kind_of(reading: Reading) -> u8
     ensures { result ≡ kind_of reading }
 {
@@ -17,6 +19,7 @@ fn kind_of(reading: Reading) -> u8
 }
 
 // A NaN has the one word that stands for it, an absent reading that of 0.0, which is not looked at.
+// Kept: `u32::from(reading)` would not say that the number is the float's word.
 fn word_in(reading: Reading) -> FloatBits
     ensures { result ≡ word_in reading }
 {
@@ -31,25 +34,11 @@ fn word_in(reading: Reading) -> FloatBits
 pub fn kinds_of(set: [Reading; 8]) -> [u8; 8]
     ensures { (result ≡ kinds_of set) × (length set ≡ 8) }
 {
-    let mut kinds = [0u8; 8];
-    let mut k = 0;
-    while k < 8 {
-        let reading = set[k];
-        kinds[k] = kind_of(reading);
-        k += 1;
-    }
-    kinds
+    set.map(kind_of)
 }
 
 pub fn words_of(set: [Reading; 8]) -> [FloatBits; 8]
     ensures { result ≡ words_of set }
 {
-    let mut words = [0u32; 8];
-    let mut k = 0;
-    while k < 8 {
-        let reading = set[k];
-        words[k] = word_in(reading);
-        k += 1;
-    }
-    words
+    set.map(word_in)
 }

@@ -4,42 +4,36 @@ ghost use Rattle.interval_store_manager.specs.Calls.{decision_means};
 ghost use Rattle.probes_definitions.specs.Readings.{any_above};
 ghost use Rattle.probe_readings.specs.Deciding.{set_asked};
 
-use interval_store_manager::Decision;
 use terms::Refusal;
 
+// Kept: a kind is a byte, since the C interface lends eight of them, and one may be no kind at all. An enum here would be a second
+// pass that copies them.
 // The greatest kind: Absent.
 const ABSENT: u8 = 2;
 
 fn any_above(limit: u8, kinds: &[u8]) -> bool
     ensures { result ≡ any_above limit kinds.now }
 {
-    let mut k = 0;
-    while k < kinds.len() {
-        if limit < kinds[k] {
-            return true;
-        }
-        k += 1;
-    }
-    false
+    kinds.iter().any(|kind| limit < *kind)
 }
 
 // Eight kinds and eight words, else 3; then 11; then 16.
-pub fn set_decision(sequence: u32, kinds: &[u8], words: usize) -> Decision
+pub fn set_decision(sequence: u32, kinds: &[u8], words: usize) -> Result<(), Refusal>
     ensures { decision_means result ≡ set_asked sequence kinds.now words }
 {
     if kinds.len() != 8 {
-        return Decision::Refuse(Refusal::Length);
+        return Err(Refusal::Length);
     }
     if words != 8 {
-        return Decision::Refuse(Refusal::Length);
+        return Err(Refusal::Length);
     }
     if any_above(ABSENT, kinds) {
-        return Decision::Refuse(Refusal::ValueTooLarge);
+        return Err(Refusal::ValueTooLarge);
     }
     if sequence == 0 {
         if any_above(1, kinds) {
-            return Decision::Refuse(Refusal::NoEarlierReading);
+            return Err(Refusal::NoEarlierReading);
         }
     }
-    Decision::Go
+    Ok(())
 }

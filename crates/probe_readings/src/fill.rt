@@ -15,10 +15,8 @@ fn fill(last: &[FloatBits], kinds: &[u8], words: &[FloatBits]) -> [FloatBits; 8]
     ensures { result ≡ filled (of_kinds kinds.now words.now) last.now }
 {
     let mut set = [0u32; 8];
-    let mut k = 0;
-    while k < 8 {
+    for k in 0..8 {
         set[k] = word_stored(kinds[k], words[k], last[k]);
-        k += 1;
     }
     set
 }

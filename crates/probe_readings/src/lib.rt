@@ -10,4 +10,4 @@ mod tally;
 pub use convert::{kinds_of, words_of};
 pub use decide::set_decision;
 pub use fill::filled_words;
-pub use tally::{is_accepted, tallies_after};
+pub use tally::tallied;

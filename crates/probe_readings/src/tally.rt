@@ -1,46 +1,21 @@
-// The tallies after a set.
-ghost use Rattle.std.specs.Prelude.{true, cond, ◌≡◌, ℕ, ◌<◌, length, get_or};
-ghost use Rattle.store_definitions.specs.Answers.{added_means};
-ghost use Rattle.probe_readings.specs.Kinds.{estimate_of, tallied_kinds, is_accepted};
-
-use store_definitions::Added;
-
-// An accepted add is kept or waits.
-pub fn is_accepted(answer: Added) -> bool
-    ensures { result ≡ is_accepted (added_means answer) }
-{
-    match answer {
-        Added::Kept(_kept) => true,
-        Added::Waiting => true,
-        Added::Refused(_why) => false,
-    }
-}
+// The tallies after an accepted set.
+ghost use Rattle.std.specs.Prelude.{◌≡◌, ℕ, ◌<◌, length, get_or};
+ghost use Rattle.probe_readings.specs.Kinds.{estimate_of, tallied_kinds};
 
 fn estimate_of(kind: u8) -> u32
     ensures { result ≡ estimate_of kind }
 {
-    if kind == 1 { 1 } else { 0 }
+    (kind == 1) as u32
 }
 
-fn tallied(tallies: [u32; 8], kinds: &[u8]) -> [u32; 8]
+// An estimate more for each probe whose kind is Estimated.
+pub fn tallied(tallies: [u32; 8], kinds: &[u8]) -> [u32; 8]
     requires { (length kinds.now ≡ 8) × ((k : ℕ) → k < 8 → get_or tallies k 0 < 4294967295) }
     ensures { result ≡ tallied_kinds kinds.now tallies }
 {
     let mut counted = [0u32; 8];
-    let mut k = 0;
-    while k < 8 {
+    for k in 0..8 {
         counted[k] = tallies[k] + estimate_of(kinds[k]);
-        k += 1;
     }
     counted
-}
-
-pub fn tallies_after(accepted: bool, tallies: [u32; 8], kinds: &[u8]) -> [u32; 8]
-    requires { (length kinds.now ≡ 8) × ((accepted ≡ true → (k : ℕ) → k < 8 → get_or tallies k 0 < 4294967295)) }
-    ensures { result ≡ cond accepted (tallied_kinds kinds.now tallies) tallies }
-{
-    if accepted {
-        return tallied(tallies, kinds);
-    }
-    tallies
 }

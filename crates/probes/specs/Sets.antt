@@ -1,12 +1,15 @@
 -- A set as its code takes it: judged, filled, added, tallied.
-use Rattle.std.specs.Prelude.{ℕ, ◌-◌, ◌≤◌, ◌<◌, Bool, true, false, cond, not, ◌≡◌, refl, length, get_or, take, drop, eqb}
+use Rattle.std.specs.Prelude.{ℕ, ◌-◌, ◌≤◌, ◌<◌, Bool, true, false, cond, not, ◌≡◌, refl, length, get_or, take, drop, eqb, is_ok, Option, Some, None, Result, Ok, Err}
+use Rattle.terms.specs.Refusals.{number}
+use Rattle.terms.specs.declared.Refusal.{Refusal}
+use Rattle.store_definitions.specs.declared.Kept.{Kept}
 use Rattle.std.proofs.Common.{arith, sym, subst, ◌∙◌}
 use mathlib.Core.List.{List}
 use Rattle.std.proofs.Math.Path.{ap}
 use borrow.Author.Tests.{eqb-true, not-false}
 use Rattle.interval_store_manager.specs.Calls.{Decided, go, refuse}
 use Rattle.store_definitions.specs.Memory.{PointStore}
-use Rattle.store_definitions.specs.Answers.{Answer, kept, waiting, done, is, says, refused, refused_after, Outcome, outcome}
+use Rattle.store_definitions.specs.Answers.{refused, added_means, Outcome, outcome}
 use Rattle.store_definitions.specs.Decisions.{and_then, refuse_if}
 use Rattle.store_definitions.specs.Adding.{add_spec}
 use Rattle.store_laws.specs.DecisionLaws.{both_go, not_refused}
@@ -20,7 +23,7 @@ use Rattle.probes_definitions.specs.Setting.{set_added, set_decided, kinds_decid
 use Rattle.probes_definitions.proofs.Sound.{probes_sound}
 use Rattle.probes_definitions.specs.WindowAfter.{Leaves, add_leaves, eight_wide}
 use Rattle.probes_definitions.proofs.SettingLaws.{kinds_set}
-use Rattle.probe_readings.specs.Kinds.{kinds_of, words_of, set_same, floats_decided, tallied_kinds, is_accepted, tallied_if}
+use Rattle.probe_readings.specs.Kinds.{kinds_of, words_of, set_same, floats_decided, tallied_kinds, tallied_if}
 use Rattle.probe_readings.specs.Deciding.{set_asked, asked_is}
 
 module _ {E : Type 0} (eq : E → E → Bool) (zero_element : E) (p : PointProbes E) (kinds : List ℕ) (xs : List E) (code : ℕ) where
@@ -78,34 +81,39 @@ module _ {E : Type 0} (eq : E → E → Bool) (zero_element : E) (p : PointProbe
         let s = sound (store_of p) w.well in
         (eight_wide (store_of p) s w.base_eight, s.lent.window_lent)
 
-    module _ (a : Answer) (q : PointStore E) (d : outcome a q ≡ added) where
-      leaves : Leaves (store_of p) point a q
+    module _ (answer : Result (Option Kept) Refusal) (q : PointStore E) (d : outcome (added_means answer) q ≡ added) where
+      leaves : Leaves (store_of p) point (added_means answer) q
       leaves = subst (λ (o : Outcome E). Leaves (store_of p) point o.answer o.after) (sym d) (add_leaves eq zero_element (store_of p) point code)
 
       -- an accepted set leaves room for one more in every tally
-      pub tally_room : is_accepted a ≡ true → (k : ℕ) → k < 8 → get_or p.header.tallies k 0 < 4294967295
-      tally_room t k h =
+      pub tally_room : (kept : Option Kept) → answer ≡ Ok kept → (k : ℕ) → k < 8 → get_or p.header.tallies k 0 < 4294967295
+      tally_room kept f k h =
           let w = probes_sound p e in
           let most = (sound (store_of p) w.well).sequence_most in
           let below = w.tallies_most k h in
-          let open_yet = unfinished a leaves t in
+          let open_yet = unfinished kept (subst (λ (r : Result (Option Kept) Refusal). Leaves (store_of p) point (added_means r) q) f leaves) in
           omega (arith, most, below, open_yet)
         where
-          unfinished : (x : Answer) → Leaves (store_of p) point x q → is_accepted x ≡ true → p.header.store.next_sequence_index ≡ 4294967295 → ⊥
-          unfinished (kept i l laid left) m y = m.unfinished
-          unfinished waiting m y = m.unfinished
-          unfinished done m y = absurd (let z : ◌≡◌ {A = ℕ} 0 1 = cc in omega arith)
-          unfinished (is n) m y = absurd (let z : ◌≡◌ {A = ℕ} 0 1 = cc in omega arith)
-          unfinished (says b) m y = absurd (let z : ◌≡◌ {A = ℕ} 0 1 = cc in omega arith)
-          unfinished (refused n) m y = absurd (let z : ◌≡◌ {A = ℕ} 0 1 = cc in omega arith)
-          unfinished (refused_after n j) m y = absurd (let z : ◌≡◌ {A = ℕ} 0 1 = cc in omega arith)
+          unfinished : (kept : Option Kept) → Leaves (store_of p) point (added_means (Ok kept)) q → p.header.store.next_sequence_index ≡ 4294967295 → ⊥
+          unfinished (Some k) m = m.unfinished
+          unfinished None m = m.unfinished
 
-      pub set_done : length kinds ≡ length xs → (b : Bool) → b ≡ is_accepted a → (ts : List ℕ) → ts ≡ cond b (tallied_kinds kinds p.header.tallies) p.header.tallies
-          → probes_outcome a (point_probes (record { store = q.header; tallies = ts }) q.memory) ≡ set_added p set added
-      set_done same b f ts g =
-          ap (λ (x : List ℕ). probes_outcome a (point_probes (record { store = q.header; tallies = x }) q.memory))
-          (g ∙ ap (λ (x : Bool). cond x (tallied_kinds kinds p.header.tallies) p.header.tallies) f ∙ tallied_if kinds xs p.header.tallies a same)
+      set_after : (r : Result (Option Kept) Refusal) → answer ≡ r → length kinds ≡ length xs
+          → probes_outcome (added_means r) (point_probes (record { store = q.header; tallies = cond (is_ok r) (tallied_kinds kinds p.header.tallies) p.header.tallies }) q.memory) ≡ set_added p set added
+      set_after r f same =
+          ap (λ (ts : List ℕ). probes_outcome (added_means r) (point_probes (record { store = q.header; tallies = ts }) q.memory)) (tallied_if kinds xs p.header.tallies r same)
+          ∙ ap (λ (x : Result (Option Kept) Refusal). set_added p set (outcome (added_means x) q)) (sym f)
           ∙ ap (λ (o : Outcome E). set_added p set o) d
+
+      pub set_done : length kinds ≡ length xs → (kept : Option Kept) → answer ≡ Ok kept → (ts : List ℕ) → ts ≡ tallied_kinds kinds p.header.tallies
+          → probes_outcome (added_means (Ok kept)) (point_probes (record { store = q.header; tallies = ts }) q.memory) ≡ set_added p set added
+      set_done same kept f ts g =
+          ap (λ (x : List ℕ). probes_outcome (added_means (Ok kept)) (point_probes (record { store = q.header; tallies = x }) q.memory)) g
+          ∙ set_after (Ok kept) f same
+
+      pub set_failed : length kinds ≡ length xs → (why : Refusal) → answer ≡ Err why
+          → probes_outcome (refused (number why)) (point_probes (record { store = q.header; tallies = p.header.tallies }) q.memory) ≡ set_added p set added
+      set_failed same why f = set_after (Err why) f same
 
 -- eight floats as kinds and words
 pub floats_set : (eq : ℕ → ℕ → Bool) (p : PointProbes ℕ) (readings : List Reading) (code : ℕ) → length readings ≡ 8 → set_kinds_spec eq 0 p (kinds_of readings) (words_of readings) code ≡ set_spec eq 0 p (of_floats readings) code

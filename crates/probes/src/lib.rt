@@ -1,5 +1,7 @@
 // A set of eight readings taken by a product: one add of the store, and the tallies. Opening stands in `probes_opening`, the reading of
 // the tallies in `probes_check`.
+// Kept: the lent slices are parameters of their own, since the C interface lends as `&mut` only what a call writes, and a struct of
+// `&mut` slices comes back from a call under names of the checker's own.
 #![tactic(auto)]
 
 ghost use Rattle.std.specs.Prelude.{true, ◌≡◌, length};
@@ -15,18 +17,17 @@ ghost use Rattle.store_definitions.specs.Answers.{added_means};
 ghost use Rattle.store_definitions.specs.Lent.{held};
 ghost use Rattle.store_definitions.specs.Memory.{point_store};
 
-use interval_store_manager::Decision;
-use probe_readings::{filled_words, is_accepted, kinds_of, set_decision, tallies_after, words_of};
+use probe_readings::{filled_words, kinds_of, set_decision, tallied, words_of};
 use probes_check::check_probes;
-use probes_definitions::{Probes, ProbesSetResult, Reading};
-use store_add::{add_unchecked, with_changes};
+use probes_definitions::{Probes, Reading};
+use store_add::add_unchecked;
 use store_check::Figures;
-use store_definitions::Added;
+use store_definitions::{Kept, Tables};
 use terms::{FloatBits, Refusal};
 
 // Of a product that is well-formed, with eight kinds and eight words.
 fn set_filled(
-    p: Probes,
+    p: &mut Probes,
     store: &mut [FloatBits],
     last_known_shingle: &mut [FloatBits],
     reference_count: &mut [u16],
@@ -46,14 +47,13 @@ fn set_filled(
     words: &[FloatBits],
     label: usize,
     figures: Figures,
-) -> ProbesSetResult
-    requires { (probes_well_formed (point_probes p (held store.old last_known_shingle.old reference_count.old location.old index_starts.old index_ends.old labels.old label_attributes.old label_count.old label_starts.old label_ends.now attributes.old attribute_count.old attribute_starts.old attribute_ends.now)) ≡ true) × ((length kinds.now ≡ 8) × ((length words.now ≡ 8) × FiguresOf figures (point_store p.store (held store.old last_known_shingle.old reference_count.old location.old index_starts.old index_ends.old labels.old label_attributes.old label_count.old label_starts.old label_ends.now attributes.old attribute_count.old attribute_starts.old attribute_ends.now)))) }
-    ensures { probes_outcome (added_means result.answer) (point_probes result.probes (held store.new last_known_shingle.new reference_count.new location.new index_starts.new index_ends.new labels.new label_attributes.new label_count.new label_starts.new label_ends.now attributes.new attribute_count.new attribute_starts.new attribute_ends.now)) ≡ set_added (point_probes p (held store.old last_known_shingle.old reference_count.old location.old index_starts.old index_ends.old labels.old label_attributes.old label_count.old label_starts.old label_ends.now attributes.old attribute_count.old attribute_starts.old attribute_ends.now)) (of_kinds kinds.now words.now) (add_spec words_equal 0 (point_store p.store (held store.old last_known_shingle.old reference_count.old location.old index_starts.old index_ends.old labels.old label_attributes.old label_count.old label_starts.old label_ends.now attributes.old attribute_count.old attribute_starts.old attribute_ends.now)) (filled (of_kinds kinds.now words.now) (last_floats (point_store p.store (held store.old last_known_shingle.old reference_count.old location.old index_starts.old index_ends.old labels.old label_attributes.old label_count.old label_starts.old label_ends.now attributes.old attribute_count.old attribute_starts.old attribute_ends.now)))) label) }
+) -> Result<Option<Kept>, Refusal>
+    requires { (probes_well_formed (point_probes p.old (held store.old last_known_shingle.old reference_count.old location.old index_starts.old index_ends.old labels.old label_attributes.old label_count.old label_starts.old label_ends.now attributes.old attribute_count.old attribute_starts.old attribute_ends.now)) ≡ true) × ((length kinds.now ≡ 8) × ((length words.now ≡ 8) × FiguresOf figures (point_store p.old.store (held store.old last_known_shingle.old reference_count.old location.old index_starts.old index_ends.old labels.old label_attributes.old label_count.old label_starts.old label_ends.now attributes.old attribute_count.old attribute_starts.old attribute_ends.now)))) }
+    ensures { probes_outcome (added_means result) (point_probes p.new (held store.new last_known_shingle.new reference_count.new location.new index_starts.new index_ends.new labels.new label_attributes.new label_count.new label_starts.new label_ends.now attributes.new attribute_count.new attribute_starts.new attribute_ends.now)) ≡ set_added (point_probes p.old (held store.old last_known_shingle.old reference_count.old location.old index_starts.old index_ends.old labels.old label_attributes.old label_count.old label_starts.old label_ends.now attributes.old attribute_count.old attribute_starts.old attribute_ends.now)) (of_kinds kinds.now words.now) (add_spec words_equal 0 (point_store p.old.store (held store.old last_known_shingle.old reference_count.old location.old index_starts.old index_ends.old labels.old label_attributes.old label_count.old label_starts.old label_ends.now attributes.old attribute_count.old attribute_starts.old attribute_ends.now)) (filled (of_kinds kinds.now words.now) (last_floats (point_store p.old.store (held store.old last_known_shingle.old reference_count.old location.old index_starts.old index_ends.old labels.old label_attributes.old label_count.old label_starts.old label_ends.now attributes.old attribute_count.old attribute_starts.old attribute_ends.now)))) label) }
 {
-    let s = p.store;
-    let filled = filled_words(s.dimensions, last_known_shingle, kinds, words);
-    let changes = add_unchecked(
-        s,
+    let filled = filled_words(p.store.dimensions, last_known_shingle, kinds, words);
+    let kept = add_unchecked(
+        &mut p.store,
         store,
         last_known_shingle,
         reference_count,
@@ -72,19 +72,14 @@ fn set_filled(
         &filled,
         label,
         figures,
-    );
-    let store = with_changes(s, changes);
-    let answer = changes.answer;
-    let accepted = is_accepted(answer);
-    let counted = p.tallies;
-    let tallies = tallies_after(accepted, counted, kinds);
-    let probes = Probes { store, tallies };
-    ProbesSetResult { probes, answer }
+    )?;
+    p.tallies = tallied(p.tallies, kinds);
+    Ok(kept)
 }
 
 // Readings as kinds (0 Measured, 1 Estimated, 2 Absent) and words: a NaN keeps its bits.
 pub fn set_words(
-    p: Probes,
+    p: &mut Probes,
     store: &mut [FloatBits],
     last_known_shingle: &mut [FloatBits],
     reference_count: &mut [u16],
@@ -103,10 +98,27 @@ pub fn set_words(
     kinds: &[u8],
     words: &[FloatBits],
     label: usize,
-) -> ProbesSetResult
-    ensures { probes_outcome (added_means result.answer) (point_probes result.probes (held store.new last_known_shingle.new reference_count.new location.new index_starts.new index_ends.new labels.new label_attributes.new label_count.new label_starts.new label_ends.now attributes.new attribute_count.new attribute_starts.new attribute_ends.now)) ≡ set_kinds_spec words_equal 0 (point_probes p (held store.old last_known_shingle.old reference_count.old location.old index_starts.old index_ends.old labels.old label_attributes.old label_count.old label_starts.old label_ends.now attributes.old attribute_count.old attribute_starts.old attribute_ends.now)) kinds.now words.now label }
+) -> Result<Option<Kept>, Refusal>
+    ensures { probes_outcome (added_means result) (point_probes p.new (held store.new last_known_shingle.new reference_count.new location.new index_starts.new index_ends.new labels.new label_attributes.new label_count.new label_starts.new label_ends.now attributes.new attribute_count.new attribute_starts.new attribute_ends.now)) ≡ set_kinds_spec words_equal 0 (point_probes p.old (held store.old last_known_shingle.old reference_count.old location.old index_starts.old index_ends.old labels.old label_attributes.old label_count.old label_starts.old label_ends.now attributes.old attribute_count.old attribute_starts.old attribute_ends.now)) kinds.now words.now label }
 {
-    let checked = check_probes(
+    let tables = Tables::new(
+        reference_count,
+        location,
+        index_starts,
+        index_ends,
+        labels,
+        label_attributes,
+        label_count,
+        label_starts,
+        label_ends,
+        attributes,
+        attribute_count,
+        attribute_starts,
+        attribute_ends,
+    );
+    let figures = check_probes(*p, store, last_known_shingle, tables).ok_or(Refusal::IllFormed)?;
+    set_decision(p.store.next_sequence_index, kinds, words.len())?;
+    set_filled(
         p,
         store,
         last_known_shingle,
@@ -123,50 +135,16 @@ pub fn set_words(
         attribute_count,
         attribute_starts,
         attribute_ends,
-    );
-    let ok = checked.ok;
-    if !ok {
-        return ProbesSetResult {
-            probes: p,
-            answer: Added::Refused(Refusal::IllFormed),
-        };
-    }
-    let s = p.store;
-    let figures = checked.figures;
-    let d = set_decision(s.next_sequence_index, kinds, words.len());
-    match d {
-        Decision::Refuse(why) => ProbesSetResult {
-            probes: p,
-            answer: Added::Refused(why),
-        },
-        Decision::Go => set_filled(
-            p,
-            store,
-            last_known_shingle,
-            reference_count,
-            location,
-            index_starts,
-            index_ends,
-            labels,
-            label_attributes,
-            label_count,
-            label_starts,
-            label_ends,
-            attributes,
-            attribute_count,
-            attribute_starts,
-            attribute_ends,
-            kinds,
-            words,
-            label,
-            figures,
-        ),
-    }
+        kinds,
+        words,
+        label,
+        figures,
+    )
 }
 
 // The eight readings as floats.
 pub fn set(
-    p: Probes,
+    p: &mut Probes,
     store: &mut [FloatBits],
     last_known_shingle: &mut [FloatBits],
     reference_count: &mut [u16],
@@ -184,8 +162,8 @@ pub fn set(
     attribute_ends: &[u16],
     readings: [Reading; 8],
     label: usize,
-) -> ProbesSetResult
-    ensures { probes_outcome (added_means result.answer) (point_probes result.probes (held store.new last_known_shingle.new reference_count.new location.new index_starts.new index_ends.new labels.new label_attributes.new label_count.new label_starts.new label_ends.now attributes.new attribute_count.new attribute_starts.new attribute_ends.now)) ≡ set_spec words_equal 0 (point_probes p (held store.old last_known_shingle.old reference_count.old location.old index_starts.old index_ends.old labels.old label_attributes.old label_count.old label_starts.old label_ends.now attributes.old attribute_count.old attribute_starts.old attribute_ends.now)) (of_floats readings) label }
+) -> Result<Option<Kept>, Refusal>
+    ensures { probes_outcome (added_means result) (point_probes p.new (held store.new last_known_shingle.new reference_count.new location.new index_starts.new index_ends.new labels.new label_attributes.new label_count.new label_starts.new label_ends.now attributes.new attribute_count.new attribute_starts.new attribute_ends.now)) ≡ set_spec words_equal 0 (point_probes p.old (held store.old last_known_shingle.old reference_count.old location.old index_starts.old index_ends.old labels.old label_attributes.old label_count.old label_starts.old label_ends.now attributes.old attribute_count.old attribute_starts.old attribute_ends.now)) (of_floats readings) label }
 {
     let kinds = kinds_of(readings);
     let words = words_of(readings);

@@ -1,6 +1,6 @@
 -- One turn of each loop, and the ways out of the check and of the reading.
-use Rattle.std.specs.Prelude.{ℕ, ◌+◌, ◌≤◌, ◌<◌, Bool, true, false, ◌&&◌, List, ◌≡◌, length, get_or, take, set}
-use Rattle.std.proofs.Common.{add-one, arith, sym, ◌∙◌, take-suc, take-suc-set, take_all}
+use Rattle.std.specs.Prelude.{ℕ, ◌+◌, ◌<◌, Bool, true, false, ◌&&◌, List, ◌≡◌, length}
+use Rattle.std.proofs.Common.{add-one, arith}
 use borrow.Author.Tests.{eq-eqb, ne_eqb}
 use Rattle.terms.specs.Below.{every_below}
 use Rattle.store_definitions.specs.Answers.{done, refused, output}
@@ -16,12 +16,6 @@ pub every_more : (k : ℕ) (p : ℕ → Bool) → every_below (k + 1) p ≡ (eve
 unfolding every_below
 every_more k p = rw (add-one k)
 
-pub copied_more : (ts out : List ℕ) (k : ℕ) → k < length ts → k < length out → take k out ≡ take k ts → take (k + 1) (set out k (get_or ts k 0)) ≡ take (k + 1) ts
-copied_more ts out k h g e = rw (add-one k, take-suc-set out k (get_or ts k 0) g, take-suc ts k 0 h, e)
-
-pub copied_all : (ts out : List ℕ) (k : ℕ) → length ts ≤ k → length out ≤ k → take k out ≡ take k ts → out ≡ ts
-copied_all ts out k h g e = sym (take_all k out g) ∙ e ∙ take_all k ts h
-
 -- ---- the check
 
 module _ {E : Type 0} (p : PointProbes E) where
@@ -36,13 +30,13 @@ module _ {E : Type 0} (p : PointProbes E) where
     pub shingle_positive : 0 < p.header.store.shingle_size
     shingle_positive = omega (arith, (sound (store_of p) e).bounds.shingle_least)
 
-    pub ill_shape : eight ≡ false → false ≡ probes_well_formed p
-    unfolding probes_well_formed
-    ill_shape f = rw (e, f)
+  -- the tests of its own
+  abbrev pub own_tests : Bool
+  own_tests = eight && tallies_within p.header.store.next_sequence_index p.header.tallies
 
-    pub by_tallies : eight ≡ true → length p.header.tallies ≡ 8 → tallies_within p.header.store.next_sequence_index p.header.tallies ≡ probes_well_formed p
-    unfolding probes_well_formed
-    by_tallies f g = rw (e, f, eq-eqb (length p.header.tallies) 8 g)
+  pub own_tests_lem : well_formed (store_of p) ≡ true → length p.header.tallies ≡ 8 → own_tests ≡ probes_well_formed p
+  unfolding probes_well_formed
+  own_tests_lem e g = rw (e, eq-eqb (length p.header.tallies) 8 g)
 
   -- ---- the reading
 

@@ -5,5 +5,5 @@
 mod check;
 mod read;
 
-pub use check::{ProbesChecked, check_probes, eight_probes};
+pub use check::{check_probes, eight_probes};
 pub use read::tallies;

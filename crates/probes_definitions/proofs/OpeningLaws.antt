@@ -1,5 +1,5 @@
 -- Opening a product: what is refused and with which number, and that an accepted opening is well-formed.
-use Rattle.std.specs.Prelude.{ℕ, zero, suc, Bool, not, List, get_or, replicate}
+use Rattle.std.specs.Prelude.{ℕ, zero, suc, Bool, not, None, List, get_or, replicate}
 use Rattle.std.proofs.Common.{arith, sym, subst, ◌∙◌}
 use Rattle.std.proofs.Math.Bool.{true, false}
 use Rattle.std.proofs.Math.Path.{◌≡◌, refl, ap}
@@ -52,7 +52,7 @@ module _ {E : Type 0} (s : Shape) (text : List ℕ) (m : Memory E) where
     pub probes_open_short : shape_allowed s ≡ true → lent_enough s.dimensions s.capacity s.store_labels m ≡ false → probes_open_decided s text m ≡ refuse 1
     probes_open_short f l = probes_open_store ∙ open_short s text m f l
 
-    pub probes_open_text : shape_allowed s ≡ true → lent_enough s.dimensions s.capacity s.store_labels m ≡ true → (table_read text).ok ≡ false → probes_open_decided s text m ≡ refuse 17
+    pub probes_open_text : shape_allowed s ≡ true → lent_enough s.dimensions s.capacity s.store_labels m ≡ true → table_read text ≡ None → probes_open_decided s text m ≡ refuse 17
     probes_open_text f l t = probes_open_store ∙ open_text s text m f l t
 
   pub record Openable : Type 0 where

@@ -1,5 +1,7 @@
 -- Opening a product: its store, and no estimates yet.
-use Rattle.std.specs.Prelude.{ℕ, not, replicate, List}
+use Rattle.std.specs.Prelude.{ℕ, not, replicate, List, Result, Ok, Err}
+use Rattle.terms.specs.Refusals.{number}
+use Rattle.terms.specs.declared.Refusal.{Refusal}
 use Rattle.interval_store_manager.specs.Calls.{Decided, go, refuse}
 use Rattle.store_definitions.specs.declared.Shape.{Shape}
 use Rattle.store_definitions.specs.Memory.{Memory, PointStore}
@@ -22,6 +24,11 @@ fresh_probes p = record { header = record { store = p.header; tallies = replicat
 -- the record of zeros, where there is no product
 abbrev pub no_probes : Probes
 no_probes = record { store = no_record; tallies = replicate 8 0 }
+
+-- what an opening answers, with the product and the memory after it
+abbrev pub probes_opened : {E : Type 0} → Result Probes Refusal → Memory E → ProbesOutcome E
+probes_opened (Ok p) m = probes_outcome done (point_probes p m)
+probes_opened (Err r) m = probes_outcome (refused (number r)) (point_probes no_probes m)
 
 module _ {E : Type 0} (zero_element : E) where
   -- a refused opening gives the record of zeros, and the memory as it was

@@ -2,7 +2,7 @@
 // its interface are here, what every call does is in specs/; the code stands in the crates above.
 #![tactic(auto)]
 
-use store_definitions::{Added, Done, Store};
+use store_definitions::Store;
 
 // What one probe reports.
 #[derive(Clone, Copy)]
@@ -19,17 +19,4 @@ pub struct Probes {
     pub store: Store,
     // How many estimates each probe has had. None is above the store's sequence, so 32 bits do.
     pub tallies: [u32; 8],
-}
-
-// The record after a call, with its answer. A refused opening gives a record of zeros.
-#[derive(Clone, Copy)]
-pub struct ProbesDoneResult {
-    pub probes: Probes,
-    pub answer: Done,
-}
-
-#[derive(Clone, Copy)]
-pub struct ProbesSetResult {
-    pub probes: Probes,
-    pub answer: Added,
 }

@@ -1,13 +1,15 @@
 -- A program's sets are a run: the product that they leave, and their answers, are those of which the product's guarantee speaks.
-use Rattle.std.specs.Prelude.{ℕ, List, [], ◌∷◌, ◌≡◌, refl}
+use Rattle.std.specs.Prelude.{ℕ, List, [], ◌∷◌, ◌≡◌, refl, Result}
+use Rattle.terms.specs.declared.Refusal.{Refusal}
 use Rattle.std.proofs.Common.{ap, sym, ◌∙◌}
 use Rattle.float_bits.specs.Words.{words_equal}
 use Rattle.store_definitions.specs.declared.Shape.{Shape}
-use Rattle.store_definitions.specs.declared.Done.{Done}
 use Rattle.store_definitions.specs.Memory.{Memory}
-use Rattle.store_definitions.specs.Answers.{Answer, done, done_means}
+use Rattle.store_definitions.specs.Answers.{Answer, done}
 use Rattle.store_definitions.specs.Lent.{entered, left}
+use Rattle.probes_definitions.specs.declared.Probes.{Probes}
 use Rattle.probes_definitions.specs.Memory.{PointProbes, point_probes}
+use Rattle.probes_definitions.specs.Opening.{probes_opened}
 use Rattle.probes_definitions.specs.Answers.{ProbesOutcome, probes_outcome}
 use Rattle.probes_definitions.specs.Readings.{of_kinds, of_floats}
 use Rattle.probes_definitions.proofs.SettingLaws.{kinds_set, kinds_none}
@@ -18,8 +20,8 @@ use Rattle.probes_guarantee.proofs.Theorem.{probes_guaranteed}
 use Rattle.probes_guarantee.specs.Ran.{ProbesOpened, opens, ProbesRan, none_yet, sets, sets_words, no_set}
 
 pub opened_is : {s : Shape} {text : List ℕ} {m : Memory ℕ} {start : PointProbes ℕ} → ProbesOpened s text m start → probes_open_call 0 s text m ≡ probes_outcome done start
-opened_is (opens s a b c d e f g h i j k l m n o t r ensures accepted) =
-    sym ensures ∙ ap (λ (z : Done). probes_outcome (done_means z) (point_probes r.probes (left a b c d e f g h i j k l m n o))) accepted
+opened_is (opens s a b c d e f g h i j k l m n o t answer r ensures accepted) =
+    sym ensures ∙ ap (λ (z : Result Probes Refusal). probes_opened z (left a b c d e f g h i j k l m n o)) accepted
 
 -- what a run answers
 unfoldable pub probes_answers_to : PointProbes ℕ → List (ProbeSet ℕ) → List Answer
@@ -44,12 +46,12 @@ one_more x {start} {before} {answers} {a} {p} {q} ensures run =
 pub ran : {start : PointProbes ℕ} {before : List (ProbeSet ℕ)} {answers : List Answer} {q : PointProbes ℕ} → ProbesRan start before answers q → IsProbesRun start before answers q
 unfolding probes_after probes_answers_to
 ran none_yet = record { probes = refl; answers_same = refl }
-ran (sets p a b c d e f g h i j k l m n o readings label r before ensures) = one_more (record { readings = of_floats readings; code = label }) ensures (ran before)
-ran (sets_words p a b c d e f g h i j k l m n o kinds words label r before ensures decided) =
+ran (sets p after a b c d e f g h i j k l m n o readings label r before ensures) = one_more (record { readings = of_floats readings; code = label }) ensures (ran before)
+ran (sets_words p after a b c d e f g h i j k l m n o kinds words label r before ensures decided) =
     one_more (record { readings = of_kinds kinds.entry words.entry; code = label })
     (ensures ∙ kinds_set words_equal 0 (point_probes p (entered a b c d e f g h i j k l m n o)) kinds.entry words.entry label decided)
     (ran before)
-ran (no_set p a b c d e f g h i j k l m n o kinds words label r before ensures number decided) =
+ran (no_set p after a b c d e f g h i j k l m n o kinds words label r before ensures number decided) =
     let run = ran before in
     record {
       probes = ap (λ (x : ProbesOutcome ℕ). x.after) ensures ∙ kinds_none words_equal 0 (point_probes p (entered a b c d e f g h i j k l m n o)) kinds.entry words.entry label number decided ∙ run.probes;

@@ -1,5 +1,7 @@
 -- Opening a product as its code does it: the product's own test, and then the store's opening.
-use Rattle.std.specs.Prelude.{ℕ, ◌<◌, ◌≤◌, Bool, ◌&&◌, List, ◌≡◌, replicate}
+use Rattle.std.specs.Prelude.{ℕ, ◌<◌, ◌≤◌, Bool, ◌&&◌, List, ◌≡◌, replicate, Result, Ok, Err}
+use Rattle.terms.specs.Refusals.{number}
+use Rattle.terms.specs.declared.Refusal.{Refusal}
 use Rattle.std.proofs.Math.Bool.{true, false}
 use Rattle.std.proofs.Math.Path.{refl, ap}
 use Rattle.std.proofs.Common.{sym, ◌∙◌, le-leb}
@@ -8,13 +10,12 @@ use Rattle.std.proofs.lemmas.Bool.{lt-leb}
 use Rattle.terms.specs.Below.{both}
 use Rattle.interval_store_manager.specs.Calls.{Decided, go, refuse}
 use Rattle.store_definitions.specs.declared.Shape.{Shape}
-use Rattle.store_definitions.specs.declared.DoneResult.{DoneResult}
+use Rattle.store_definitions.specs.declared.Store.{Store}
 use Rattle.store_definitions.specs.Memory.{Memory, point_store}
-use Rattle.store_definitions.specs.Answers.{done, refused, done_means, Outcome, outcome}
+use Rattle.store_definitions.specs.Answers.{done, refused, opened_means, Outcome, outcome}
 use Rattle.store_definitions.specs.Bounds.{bounds_hold, start_allowed}
 use Rattle.store_definitions.specs.Decisions.{carried_out}
-use Rattle.store_definitions.specs.Opening.{shape_allowed, open_decided, no_record, opened, open_spec}
-use Rattle.probes_definitions.specs.declared.Probes.{Probes}
+use Rattle.store_definitions.specs.Opening.{shape_allowed, open_decided, no_record, opened_store, opened, open_spec}
 use Rattle.probes_definitions.specs.Memory.{point_probes}
 use Rattle.probes_definitions.specs.Answers.{ProbesOutcome, probes_outcome}
 use Rattle.probes_definitions.specs.WellFormed.{eight_probes}
@@ -49,9 +50,9 @@ module _ (s : Shape) (text : List ℕ) (m : Memory ℕ) where
       some true false c = refl
       some false b c = refl
 
-  pub open_other : test ≡ false → (r : Probes) → r ≡ no_probes → probes_outcome (refused 2) (point_probes r m) ≡ probes_open_spec 0 s text m
+  pub open_other : test ≡ false → probes_outcome (refused 2) (point_probes no_probes m) ≡ probes_open_spec 0 s text m
   unfolding probes_open_spec
-  open_other e r q = ap (λ (x : Probes). probes_outcome (refused 2) (point_probes x m)) q ∙ ap (λ (d : Decided). probes_open_carried_out 0 d s text m) (sym (split (leb 1 s.shingle_size) eight refl refl e))
+  open_other e = ap (λ (d : Decided). probes_open_carried_out 0 d s text m) (sym (split (leb 1 s.shingle_size) eight refl refl e))
     where
       split : (a b : Bool) → leb 1 s.shingle_size ≡ a → eight ≡ b → a && b ≡ false → probes_open_decided s text m ≡ refuse 2
       split true true f g h = probes_open_other s text m (g ∙ h)
@@ -66,10 +67,16 @@ module _ (s : Shape) (text : List ℕ) (m : Memory ℕ) where
   carried_around go = refl
   carried_around (refuse n) = refl
 
-  pub open_eight : test ≡ true → (d : DoneResult) (k : Memory ℕ) → outcome (done_means d.answer) (point_store d.store k) ≡ open_spec 0 s text m
-      → probes_outcome (done_means d.answer) (point_probes (record { store = d.store; tallies = replicate 8 0 }) k) ≡ probes_open_spec 0 s text m
-  unfolding probes_open_spec open_spec
-  open_eight e d k o =
-      ap around o
-      ∙ carried_around (open_decided s text m)
-      ∙ ap (λ (x : Decided). probes_open_carried_out 0 x s text m) (sym (probes_open_store s text m (both (leb 1 s.shingle_size) eight e).1))
+  module _ (e : test ≡ true) (answer : Result Store Refusal) (k : Memory ℕ) (o : outcome (opened_means answer) (point_store (opened_store answer) k) ≡ open_spec 0 s text m) where
+    opened_around : around (outcome (opened_means answer) (point_store (opened_store answer) k)) ≡ probes_open_spec 0 s text m
+    unfolding probes_open_spec open_spec
+    opened_around =
+        ap around o
+        ∙ carried_around (open_decided s text m)
+        ∙ ap (λ (x : Decided). probes_open_carried_out 0 x s text m) (sym (probes_open_store s text m (both (leb 1 s.shingle_size) eight e).1))
+
+    pub open_eight : (r : Store) → answer ≡ Ok r → probes_outcome done (point_probes (record { store = r; tallies = replicate 8 0 }) k) ≡ probes_open_spec 0 s text m
+    open_eight r f = sym (ap (λ (x : Result Store Refusal). around (outcome (opened_means x) (point_store (opened_store x) k))) f) ∙ opened_around
+
+    pub open_failed : (why : Refusal) → answer ≡ Err why → probes_outcome (refused (number why)) (point_probes no_probes k) ≡ probes_open_spec 0 s text m
+    open_failed why f = sym (ap (λ (x : Result Store Refusal). around (outcome (opened_means x) (point_store (opened_store x) k))) f) ∙ opened_around

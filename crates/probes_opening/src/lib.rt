@@ -1,17 +1,15 @@
 // Opening a product in lent memory: its store, and no estimates yet.
+// Kept: an opening writes to slices that stand nowhere together but in its own parameters, so a struct of them would be made for one call.
 #![tactic(auto)]
 
 ghost use Rattle.std.specs.Prelude.{◌&&◌, ◌≡◌, leb};
-ghost use Rattle.probes_definitions.specs.Answers.{probes_outcome};
-ghost use Rattle.probes_definitions.specs.Memory.{point_probes};
-ghost use Rattle.probes_definitions.specs.Opening.{no_probes, probes_open_spec};
+ghost use Rattle.probes_definitions.specs.Opening.{no_probes, probes_opened, probes_open_spec};
 ghost use Rattle.probes_definitions.specs.WellFormed.{eight_probes};
-ghost use Rattle.store_definitions.specs.Answers.{done_means};
 ghost use Rattle.store_definitions.specs.Lent.{held};
 
 use probes_check::eight_probes;
-use probes_definitions::{Probes, ProbesDoneResult};
-use store_definitions::{Done, Shape};
+use probes_definitions::Probes;
+use store_definitions::Shape;
 use store_rows::{no_record, open};
 use terms::{FloatBits, Refusal};
 
@@ -25,20 +23,17 @@ fn for_eight_probes(dimensions: usize, shingle_size: usize, internal_shingling: 
     eight_probes(dimensions, shingle_size, internal_shingling)
 }
 
-// What a refused opening gives in place of a record.
+// The record where an opening was refused: every call refuses it as ill-formed.
 pub fn no_probes() -> Probes
     ensures { result ≡ no_probes }
 {
-    let none = no_record();
-    let tallies = [0u32; 8];
     Probes {
-        store: none,
-        tallies,
+        store: no_record(),
+        tallies: [0u32; 8],
     }
 }
 
-// A refused opening of the store gives its record of zeros, and that of the product is the same with tallies of 0. `class_text` is the
-// table of reason classes as text.
+// `class_text` is the table of reason classes as text.
 pub fn open_probes(
     shape: Shape,
     store: &mut [FloatBits],
@@ -57,19 +52,15 @@ pub fn open_probes(
     attribute_starts: &mut [u16],
     attribute_ends: &mut [u16],
     class_text: &[u8],
-) -> ProbesDoneResult
-    ensures { probes_outcome (done_means result.answer) (point_probes result.probes (held store.new last_known_shingle.new reference_count.new location.new index_starts.new index_ends.new labels.new label_attributes.new label_count.new label_starts.new label_ends.new attributes.new attribute_count.new attribute_starts.new attribute_ends.new)) ≡ probes_open_spec 0 shape class_text.now (held store.old last_known_shingle.old reference_count.old location.old index_starts.old index_ends.old labels.old label_attributes.old label_count.old label_starts.old label_ends.old attributes.old attribute_count.old attribute_starts.old attribute_ends.old) }
+) -> Result<Probes, Refusal>
+    ensures { probes_opened result (held store.new last_known_shingle.new reference_count.new location.new index_starts.new index_ends.new labels.new label_attributes.new label_count.new label_starts.new label_ends.new attributes.new attribute_count.new attribute_starts.new attribute_ends.new) ≡ probes_open_spec 0 shape class_text.now (held store.old last_known_shingle.old reference_count.old location.old index_starts.old index_ends.old labels.old label_attributes.old label_count.old label_starts.old label_ends.old attributes.old attribute_count.old attribute_starts.old attribute_ends.old) }
 {
     if !for_eight_probes(
         shape.dimensions,
         shape.shingle_size,
         shape.internal_shingling,
     ) {
-        let none = no_probes();
-        return ProbesDoneResult {
-            probes: none,
-            answer: Done::Refused(Refusal::Shape),
-        };
+        return Err(Refusal::Shape);
     }
     let opened = open(
         shape,
@@ -89,10 +80,9 @@ pub fn open_probes(
         attribute_starts,
         attribute_ends,
         class_text,
-    );
-    let store = opened.store;
-    let answer = opened.answer;
-    let tallies = [0u32; 8];
-    let probes = Probes { store, tallies };
-    ProbesDoneResult { probes, answer }
+    )?;
+    Ok(Probes {
+        store: opened,
+        tallies: [0u32; 8],
+    })
 }

@@ -1,23 +1,23 @@
 -- A program's calls are a run: the store that they leave, and their answers, are those of which the list guarantee speaks.
-use Rattle.std.specs.Prelude.{ℕ, List, [], ◌∷◌, ◌≡◌, refl}
+use Rattle.std.specs.Prelude.{ℕ, List, [], ◌∷◌, ◌≡◌, refl, Result}
 use Rattle.std.proofs.Common.{ap, sym, ◌∙◌}
+use Rattle.terms.specs.declared.Refusal.{Refusal}
 use Rattle.float_bits.specs.Words.{words_equal}
 use Rattle.store_definitions.specs.declared.Shape.{Shape}
-use Rattle.store_definitions.specs.declared.Done.{Done}
+use Rattle.store_definitions.specs.declared.Store.{Store}
 use Rattle.store_definitions.specs.Memory.{Memory, PointStore, point_store}
-use Rattle.store_definitions.specs.Answers.{Answer, done, done_means, Outcome, outcome}
+use Rattle.store_definitions.specs.Answers.{Answer, done, opened_means, Outcome, outcome}
 use Rattle.store_definitions.specs.Lent.{left}
-use Rattle.store_definitions.specs.Opening.{open_spec}
-use Rattle.store_adjust.specs.Pairs.{pairings}
-use Rattle.store_adjust_pairs.specs.Records.{pairings_of}
+use Rattle.store_definitions.specs.Opening.{opened_store, open_spec}
+use Rattle.store_adjust.specs.Pairs.{pairings_of}
 use Rattle.guarantee.specs.Run.{Call, add, inc, dec, adjust, compact, called, after, answer_to}
 use Rattle.guarantee.specs.Guarantee.{Guarantee}
 use Rattle.guarantee.proofs.Theorem.{guaranteed}
-use Rattle.program_runs.specs.Ran.{Opened, opens, Ran, none_yet, adds, incs, decs, adjusts_plain, adjusts, compacts}
+use Rattle.program_runs.specs.Ran.{Opened, opens, Ran, none_yet, adds, incs, decs, adjusts, compacts}
 
 pub opened_is : {h : Shape} {text : List ℕ} {m : Memory ℕ} {start : PointStore ℕ} → Opened h text m start → open_spec 0 h text m ≡ outcome done start
-opened_is (opens h a b c d e f g h' i j k l m n o text r ensures accepted) =
-    sym ensures ∙ ap (λ (x : Done). outcome (done_means x) (point_store r.store (left a b c d e f g h' i j k l m n o))) accepted
+opened_is (opens h a b c d e f g h' i j k l m n o text answer s ensures accepted) =
+    sym ensures ∙ ap (λ (x : Result Store Refusal). outcome (opened_means x) (point_store (opened_store x) (left a b c d e f g h' i j k l m n o))) accepted
 
 -- what a run answers
 unfoldable pub answers_to : PointStore ℕ → List (Call ℕ) → List Answer
@@ -42,12 +42,11 @@ call c {start} {calls} {answers} {a} {p} {q} ensures before =
 pub ran : {start : PointStore ℕ} {calls : List (Call ℕ)} {answers : List Answer} {q : PointStore ℕ} → Ran start calls answers q → IsRun start calls answers q
 unfolding after answers_to
 ran none_yet = record { store = refl; answers_same = refl }
-ran (adds s a b c d e f g h i j k l m n o point label r before ensures) = call (add point.entry label) ensures (ran before)
-ran (incs s a b c d e f g h i j k l m n o index label r before ensures) = call (inc index.0 label.0) ensures (ran before)
-ran (decs s a b c d e f g h i j k l m n o index label r before ensures) = call (dec index.0 label.0) ensures (ran before)
-ran (adjusts_plain s a b c d e f g h i j k l m n o pairs r before ensures) = call (adjust (pairings pairs.entry)) ensures (ran before)
-ran (adjusts s a b c d e f g h i j k l m n o pairs r before ensures) = call (adjust (pairings_of pairs.entry)) ensures (ran before)
-ran (compacts s a b c d e f g h i j k l m n o r before ensures) = call compact ensures (ran before)
+ran (adds s after a b c d e f g h i j k l m n o point label answer before ensures) = call (add point.entry label) ensures (ran before)
+ran (incs s a b c d e f g h i j k l m n o index label answer before ensures) = call (inc index.0 label.0) ensures (ran before)
+ran (decs s after a b c d e f g h i j k l m n o index label answer before ensures) = call (dec index.0 label.0) ensures (ran before)
+ran (adjusts s after a b c d e f g h i j k l m n o pairs answer before ensures) = call (adjust (pairings_of pairs.entry)) ensures (ran before)
+ran (compacts s after a b c d e f g h i j k l m n o answer before ensures) = call compact ensures (ran before)
 
 -- and so the list guarantee is one of the program: its store and its answers are those of the run that the guarantee speaks of
 pub program_guaranteed : {h : Shape} {text : List ℕ} {m : Memory ℕ} {start : PointStore ℕ} {calls : List (Call ℕ)} {answers : List Answer} {q : PointStore ℕ}

@@ -2,6 +2,8 @@
 use Rattle.std.specs.Prelude.{ℕ, ◌+◌, ◌-◌, ◌*◌, ◌≤◌, ◌<◌, List, [], ◌∷◌, Bool, true, false, cond, ◌&&◌, ◌≡◌, length, get_or, drop, leb}
 use Rattle.std.proofs.Common.{add-one, drop_of_length-le, drop-cons, le-leb}
 use Rattle.std.proofs.lemmas.Bool.{lt-leb}
+use Rattle.std.proofs.Math.Bool.{and-false}
+use Rattle.std.specs.Char.{is_ascii_digit}
 use Rattle.recorded_text.specs.declared.Numeral.{Numeral}
 
 abbrev pub numeral : ℕ → ℕ → Numeral
@@ -9,7 +11,7 @@ numeral value next = record { value = value; next = next }
 
 -- a digit that the number takes after the value so far
 unfoldable pub taken : ℕ → ℕ → Bool
-taken value b = leb 48 b && (leb b 57 && leb value 999999999)
+taken value b = is_ascii_digit b && leb value 999999999
 
 -- the digits from place i on, after the value so far, and one byte more
 unfoldable pub digits : List ℕ → ℕ → ℕ → Numeral
@@ -38,18 +40,14 @@ module _ (text : List ℕ) (value i : ℕ) where
     digits_go e = rw (opened, e)
 
 -- when a byte is taken, by the tests that the reader makes
-pub below_digits : (value b : ℕ) → b < 48 → taken value b ≡ false
+pub no_digit : (value b : ℕ) → is_ascii_digit b ≡ false → taken value b ≡ false
 unfolding taken
-below_digits value b h = rw (lt-leb 48 b h)
+no_digit value b e = rw e
 
-pub above_digits : (value b : ℕ) → 48 ≤ b → 57 < b → taken value b ≡ false
+pub too_large : (value b : ℕ) → 999999999 < value → taken value b ≡ false
 unfolding taken
-above_digits value b h g = rw (le-leb 48 b h, lt-leb b 57 g)
+too_large value b l = rw (lt-leb value 999999999 l) (and-false (is_ascii_digit b))
 
-pub too_large : (value b : ℕ) → 48 ≤ b → b ≤ 57 → 999999999 < value → taken value b ≡ false
+pub a_digit : (value b : ℕ) → is_ascii_digit b ≡ true → value ≤ 999999999 → taken value b ≡ true
 unfolding taken
-too_large value b h g l = rw (le-leb 48 b h, le-leb b 57 g, lt-leb value 999999999 l)
-
-pub a_digit : (value b : ℕ) → 48 ≤ b → b ≤ 57 → value ≤ 999999999 → taken value b ≡ true
-unfolding taken
-a_digit value b h g l = rw (le-leb 48 b h, le-leb b 57 g, le-leb value 999999999 l)
+a_digit value b e l = rw (e, le-leb value 999999999 l)

@@ -1,9 +1,13 @@
 // The text of recorded calls: numbers in decimal, each followed by one byte, a call to a line. The programs that replay
-// recorded answers of the Rust read it with these.
+// recorded answers of the Rust read it with these, and tally with these which calls agreed.
 #![tactic(auto)]
 
 ghost use Rattle.std.specs.Prelude.{◌≡◌};
-ghost use Rattle.recorded_text.specs.Numbers.{number_at};
+ghost use Rattle.recorded_text.specs.Numbers.{number_at, numeral};
+
+mod tally;
+
+pub use tally::{Agreement, Tally};
 
 // A number and where the next one starts.
 #[derive(Clone, Copy)]
@@ -16,36 +20,33 @@ pub struct Numeral {
 const MOST: usize = 999_999_999;
 
 // The number whose first digit stands at `at`, and the place past the byte that follows its last digit.
-pub fn number_at(text: &[u8], at: usize) -> Numeral
+fn number_at(text: &[u8], at: usize) -> Numeral
     ensures { result ≡ number_at text.now at }
 {
     let mut value: usize = 0;
-    let mut i = at;
-    while i < text.len() {
-        let b = text[i] as usize;
-        i += 1;
-        if b < 48 {
-            return Numeral { value, next: i };
+    for i in at..text.len() {
+        let b = text[i];
+        if !b.is_ascii_digit() || MOST < value {
+            return Numeral { value, next: i + 1 };
         }
-        if 57 < b {
-            return Numeral { value, next: i };
-        }
-        if MOST < value {
-            return Numeral { value, next: i };
-        }
-        value = value * 10 + (b - 48);
+        value = value * 10 + (b - b'0') as usize;
     }
-    Numeral { value, next: i }
+    Numeral {
+        value,
+        next: at.max(text.len()),
+    }
 }
 
+// The number that stands at `at`, which then is where the next one starts.
+pub fn next_number(text: &[u8], at: &mut usize) -> usize
+    ensures { numeral result at.new ≡ number_at text.now at.old }
+{
+    let numeral = number_at(text, *at);
+    *at = numeral.next;
+    numeral.value
+}
+
+// How many lines end in the text.
 pub fn count_lines(text: &[u8]) -> usize {
-    let mut lines: usize = 0;
-    let mut i = 0;
-    while i < text.len() {
-        if text[i] == b'\n' {
-            lines += 1;
-        }
-        i += 1;
-    }
-    lines
+    text.iter().filter(|b| **b == b'\n').count()
 }

@@ -1,108 +1,101 @@
 // Answers of the store in the record's numbers.
-use crate::record::NONE_WRITTEN;
+use crate::record::written;
+use float_bits::word_of_float;
 use placement::Laid;
-use store_definitions::{Added, Adjusted, Done, Equality, Kept, Number};
-use terms::{NONE, refusal_number};
+use std::alloc::{AllocError, Global};
+use store_definitions::{AdjustRefusal, Kept};
+use terms::Refusal;
 
-// A value and up to five numbers.
-#[derive(Clone, Copy)]
-pub struct Told {
+// 0 or the number of the refusal, and what the call gives.
+#[derive(PartialEq, Drop)]
+pub struct Answer {
     pub value: usize,
-    pub count: usize,
-    pub a: usize,
-    pub b: usize,
-    pub c: usize,
-    pub d: usize,
-    pub e: usize,
+    pub numbers: Vec<usize>,
 }
 
-fn written(n: usize) -> usize {
-    if n == NONE {
-        return NONE_WRITTEN;
-    }
-    n
+// An entry of a list in the record's numbers: of a float its word.
+pub trait Recorded: Copy {
+    fn recorded(self) -> usize;
 }
 
-pub fn read(n: usize) -> usize {
-    if n == NONE_WRITTEN {
-        return NONE;
-    }
-    n
-}
-
-fn one_number(value: usize, count: usize, a: usize) -> Told {
-    Told {
-        value,
-        count,
-        a,
-        b: 0,
-        c: 0,
-        d: 0,
-        e: 0,
+impl Recorded for usize {
+    fn recorded(self) -> usize {
+        self
     }
 }
 
-pub fn of_done(d: Done) -> Told {
-    match d {
-        Done::Done => one_number(0, 0, 0),
-        Done::Refused(r) => one_number(refusal_number(r) as usize, 0, 0),
+impl Recorded for u32 {
+    fn recorded(self) -> usize {
+        self as usize
     }
 }
 
-pub fn of_number(n: Number) -> Told {
-    match n {
-        Number::Is(k) => one_number(0, 1, k),
-        Number::Refused(r) => one_number(refusal_number(r) as usize, 0, 0),
+impl Recorded for f32 {
+    fn recorded(self) -> usize {
+        word_of_float(self) as usize
     }
 }
 
-pub fn of_equality(q: Equality) -> Told {
-    match q {
-        Equality::Is(b) => one_number(0, 1, b as usize),
-        Equality::Refused(r) => one_number(refusal_number(r) as usize, 0, 0),
+impl Answer {
+    pub fn refused(alloc: Global, why: Refusal) -> Self {
+        Answer {
+            value: u64::from(why) as usize,
+            numbers: Vec::new(alloc),
+        }
     }
-}
 
-pub fn of_adjusted(a: Adjusted) -> Told {
-    match a {
-        Adjusted::Done => one_number(0, 0, 0),
-        Adjusted::Refused(r, before) => one_number(refusal_number(r) as usize, 1, before),
+    pub fn given<T: Recorded>(alloc: Global, list: &[T]) -> Result<Self, AllocError> {
+        let numbers = list.iter().map(|entry| entry.recorded()).collect(alloc)?;
+        Ok(Answer { value: 0, numbers })
     }
-}
 
-fn joined(l: Laid) -> usize {
-    match l {
-        Laid::Whole(_) => 0,
-        Laid::Joined(_) => 1,
+    // Of a call that fills a list, or of one with no value and no list.
+    pub fn filled<T: Recorded>(
+        alloc: Global,
+        answer: Result<(), Refusal>,
+        list: &[T],
+    ) -> Result<Self, AllocError> {
+        match answer {
+            Ok(()) => Answer::given(alloc, list),
+            Err(why) => Ok(Answer::refused(alloc, why)),
+        }
     }
-}
 
-fn place(l: Laid) -> usize {
-    match l {
-        Laid::Whole(p) => p,
-        Laid::Joined(p) => p,
+    pub fn done(alloc: Global, answer: Result<(), Refusal>) -> Result<Self, AllocError> {
+        Answer::filled::<usize>(alloc, answer, &[])
     }
-}
 
-fn of_kept(k: Kept) -> Told {
-    let index = k.index;
-    let label = k.label;
-    let laid = k.laid;
-    Told {
-        value: 0,
-        count: 5,
-        a: 1,
-        b: index.0,
-        c: written(label.0),
-        d: joined(laid),
-        e: place(laid),
+    pub fn number(alloc: Global, answer: Result<usize, Refusal>) -> Result<Self, AllocError> {
+        match answer {
+            Ok(number) => Answer::given(alloc, &[number]),
+            Err(why) => Ok(Answer::refused(alloc, why)),
+        }
     }
-}
 
-pub fn of_added(a: Added) -> Told {
-    match a {
-        Added::Kept(k) => of_kept(k),
-        Added::Waiting => one_number(0, 1, 0),
-        Added::Refused(r) => one_number(refusal_number(r) as usize, 0, 0),
+    // 0 where the store waits; else 1, the index, the label's, whether the row was joined to the one before, and its place.
+    pub fn added(alloc: Global, answer: Result<Option<Kept>, Refusal>) -> Result<Self, AllocError> {
+        match answer {
+            Ok(None) => Answer::given(alloc, &[0usize]),
+            Ok(Some(kept)) => {
+                let (joined, place) = match kept.laid {
+                    Laid::Whole(place) => (0, place),
+                    Laid::Joined(place) => (1, place),
+                };
+                let numbers = [1, kept.index.0, written(kept.label.0), joined, place];
+                Answer::given(alloc, &numbers)
+            }
+            Err(why) => Ok(Answer::refused(alloc, why)),
+        }
+    }
+
+    pub fn adjusted(alloc: Global, answer: Result<(), AdjustRefusal>) -> Result<Self, AllocError> {
+        match answer {
+            Ok(()) => Answer::done(alloc, Ok(())),
+            Err(AdjustRefusal { why, pairs_before }) => {
+                let mut refused = Answer::refused(alloc, why);
+                refused.numbers.push(pairs_before)?;
+                Ok(refused)
+            }
+        }
     }
 }

@@ -3,106 +3,95 @@
 #![tactic(auto)]
 
 mod answers;
-mod calls;
+mod call;
 mod changing;
-mod lists;
-mod made;
 mod reading;
 mod record;
-mod tally;
-mod words;
 
-use block::{Block, free_start_of, live_points, open_block};
-use calls::make;
-use made::Made;
-use record::{Line, line_at};
-use recorded_text::count_lines;
+use answers::Answer;
+use block::Block;
+use call::{CALLS, Call};
+use record::{Line, next_line};
+use recorded_text::{Tally, count_lines};
+use std::alloc::{AllocError, Global};
 use std::{fs, io};
-use store_definitions::{Number, Shape};
+use store_definitions::Shape;
 
-// What the replay of one line finds: the store after it, and where the next line starts.
-#[derive(Clone, Copy)]
-struct Step {
-    block: Block,
-    next: usize,
-}
-
-fn number_of(n: Number) -> usize {
-    match n {
-        Number::Is(k) => k,
-        Number::Refused(_) => record::NONE_WRITTEN,
+fn make(alloc: Global, block: &mut Block, call: Call, line: &Line) -> Result<Answer, AllocError> {
+    // Kept: each call takes arguments of its own, which a table of functions would have to carry all.
+    match call {
+        Call::Open => changing::open(alloc, block, line),
+        Call::Add => changing::add(alloc, block, line),
+        Call::Inc => changing::inc(alloc, block, line),
+        Call::Dec => changing::dec(alloc, block, line),
+        Call::Adjust => changing::adjust(alloc, block, line),
+        Call::Compact => Answer::done(alloc, block.compact()),
+        Call::Copy => reading::copy(alloc, block, line),
+        Call::Count => Answer::number(alloc, block.count(line.point())),
+        Call::IsEqual => reading::is_equal(alloc, block, line),
+        Call::PointSum => reading::point_sum(alloc, block, line),
+        Call::ShingledPoint => reading::shingled_point(alloc, block, line),
+        Call::MissingIndices => reading::missing_indices(alloc, block, line),
+        Call::NextIndices => reading::next_indices(alloc, block, line),
+        Call::Label => Answer::number(alloc, block.label(line.label())),
+        Call::Attribute => Answer::number(alloc, block.attribute(line.label())),
+        Call::AttributeVec => reading::attribute_vec(alloc, block, line),
     }
-}
-
-fn agrees(line: Line, made: Made) -> bool {
-    if made.value != line.value {
-        return false;
-    }
-    if made.count != line.answered {
-        return false;
-    }
-    let given = made.answers;
-    let recorded = line.answers;
-    record::same_answers(given, recorded)
-}
-
-fn rests(line: Line, b: Block) -> bool {
-    let free = number_of(free_start_of(b));
-    let live = number_of(live_points(b));
-    if free != line.free_start {
-        return false;
-    }
-    live == line.live_number
 }
 
 fn replay_line(
     rt: &impl Print,
-    text: &[u8],
-    at: usize,
+    alloc: Global,
     step: usize,
-    b: Block,
-    tally: &mut [u64],
-) -> io::Result<Step> {
-    let line = line_at(text, at);
-    let made = make(b, line);
-    let after = made.block;
-    let agreed = agrees(line, made) & rests(line, after);
-    tally::count(tally, line.call, agreed);
+    line: &Line,
+    block: &mut Block,
+    tally: &mut Tally<16>,
+) -> io::Result<()> {
+    let call = match Call::try_from(line.call) {
+        Ok(call) => call,
+        Err(unknown) => {
+            tally.count(line.call, false);
+            return println!(rt; "step {step} differs: {unknown}");
+        }
+    };
+    let answer = make(alloc, block, call, line)?;
+    let agreed = answer == line.answer
+        && block.free_start() == Ok(line.free_start)
+        && block.live_number() == Ok(line.live_number);
+    tally.count(line.call, agreed);
     if !agreed {
-        tally::print_difference(rt, step, line.call, made.value, line.value)?;
-    }
-    Ok(Step {
-        block: after,
-        next: line.next,
-    })
-}
-
-fn replay(rt: &impl Print, text: &[u8], tally: &mut [u64]) -> io::Result<()> {
-    let lines = count_lines(text);
-    let opened = open_block(Shape {
-        dimensions: 1,
-        shingle_size: 1,
-        capacity: 1,
-        initial_capacity: 1,
-        internal_shingling: false,
-        internal_rotation: false,
-        store_labels: false,
-    });
-    let mut b = opened.block;
-    let mut at: usize = 0;
-    let mut step: usize = 0;
-    while step < lines {
-        step += 1;
-        let replayed = replay_line(rt, text, at, step, b, tally)?;
-        b = replayed.block;
-        at = replayed.next;
+        let value = answer.value;
+        let recorded = line.answer.value;
+        println!(rt; "step {step} differs: {call}: value {value}, recorded {recorded}")?;
     }
     Ok(())
 }
 
+// Before the record opens a store, the smallest one stands.
+const SMALLEST: Shape = Shape {
+    dimensions: 1,
+    shingle_size: 1,
+    capacity: 1,
+    initial_capacity: 1,
+    internal_shingling: false,
+    internal_rotation: false,
+    store_labels: false,
+};
+
+fn replay(rt: &impl Print, alloc: Global, text: &[u8]) -> io::Result<Tally<16>> {
+    let smallest = Block::open(SMALLEST);
+    let mut block = smallest.map_err(|_| io::Error::other("the smallest store was refused"))?;
+    let mut tally = Tally::new();
+    let mut at = 0;
+    for step in 1..=count_lines(text) {
+        let line = next_line(alloc, text, &mut at)?;
+        replay_line(rt, alloc, step, &line, &mut block, &mut tally)?;
+    }
+    Ok(tally)
+}
+
 fn main(rt: HostRuntime) -> io::Result<()> {
     let text = fs::read(&rt, "store_calls")?;
-    let mut tally = [0u64; 64];
-    replay(&rt, &text, &mut tally[..])?;
-    tally::print_summary(&rt, &tally[..])
+    let tally = replay(&rt, rt.alloc(), &text)?;
+    tally.print(&rt, &CALLS)
 }

@@ -1,94 +1,116 @@
 // A line of the record: the call, two arguments, how many numbers it takes and these; then the value (0 or document 01's refusal
 // number), how many numbers it answers and these; then the free start and the number of live points after the call.
-ghost use Rattle.std.specs.Prelude.{◌≤◌};
-
-use recorded_text::number_at;
+use crate::answers::Answer;
+use recorded_text::next_number;
+use std::alloc::{AllocError, Global};
+use store_definitions::{Change, Item, Pair};
+use terms::{FloatBits, LabelIndex, NONE, PointIndex};
 
 // What the record writes for none, 2^64 − 1.
-pub const NONE_WRITTEN: usize = 9_999_999_999;
+const NONE_WRITTEN: usize = 9_999_999_999;
 
-// No call takes or answers more than 64 numbers.
-#[derive(Clone, Copy)]
+pub fn written(index: usize) -> usize {
+    if index == NONE { NONE_WRITTEN } else { index }
+}
+
+fn read(index: usize) -> usize {
+    if index == NONE_WRITTEN { NONE } else { index }
+}
+
+#[derive(Drop)]
 pub struct Line {
     pub call: usize,
     pub first: usize,
     pub second: usize,
-    pub taken: usize,
-    pub numbers: [usize; 64],
-    pub value: usize,
-    pub answered: usize,
-    pub answers: [usize; 64],
+    pub numbers: Vec<usize>,
+    pub answer: Answer,
     pub free_start: usize,
     pub live_number: usize,
-    pub next: usize,
 }
 
-// `n`, or `most` if that is less.
-pub fn shorter(n: usize, most: usize) -> usize
-    ensures { result ≤ most }
-{
-    if n < most {
-        return n;
+// How many numbers, and these. Each takes a byte of the text at least.
+fn next_numbers(alloc: Global, text: &[u8], at: &mut usize) -> Result<Vec<usize>, AllocError> {
+    let count = next_number(text, at);
+    let mut numbers = Vec::new(alloc);
+    for _ in 0..count.min(text.len()) {
+        numbers.push(next_number(text, at))?;
     }
-    most
+    Ok(numbers)
 }
 
-// Reads `count` numbers, of which `out` holds as many as it can; answers where the next one starts.
-fn numbers_at(text: &[u8], start: usize, count: usize, out: &mut [usize]) -> usize {
-    let n = shorter(count, out.len());
-    let mut at = start;
-    let mut i: usize = 0;
-    while i < n {
-        let numeral = number_at(text, at);
-        out[i] = numeral.value;
-        at = numeral.next;
-        i += 1;
-    }
-    at
-}
-
-fn same(a: &[usize], b: &[usize]) -> bool {
-    if a.len() != b.len() {
-        return false;
-    }
-    let mut ok = true;
-    let mut i = 0;
-    while i < a.len() {
-        ok = ok & (a[i] == b[i]);
-        i += 1;
-    }
-    ok
-}
-
-// Whether two lists of answers are the same, unused entries too, which are 0.
-pub fn same_answers(a: [usize; 64], b: [usize; 64]) -> bool {
-    same(&a[..], &b[..])
-}
-
-pub fn line_at(text: &[u8], at: usize) -> Line {
-    let call = number_at(text, at);
-    let first = number_at(text, call.next);
-    let second = number_at(text, first.next);
-    let taken = number_at(text, second.next);
-    let mut numbers = [0usize; 64];
-    let after = numbers_at(text, taken.next, taken.value, &mut numbers[..]);
-    let value = number_at(text, after);
-    let answered = number_at(text, value.next);
-    let mut answers = [0usize; 64];
-    let rest = numbers_at(text, answered.next, answered.value, &mut answers[..]);
-    let free = number_at(text, rest);
-    let live = number_at(text, free.next);
-    Line {
-        call: call.value,
-        first: first.value,
-        second: second.value,
-        taken: taken.value,
+// The line that starts at `at`, which then is where the next one starts.
+pub fn next_line(alloc: Global, text: &[u8], at: &mut usize) -> Result<Line, AllocError> {
+    let call = next_number(text, at);
+    let first = next_number(text, at);
+    let second = next_number(text, at);
+    let numbers = next_numbers(alloc, text, at)?;
+    let value = next_number(text, at);
+    let answer = Answer {
+        value,
+        numbers: next_numbers(alloc, text, at)?,
+    };
+    Ok(Line {
+        call,
+        first,
+        second,
         numbers,
-        value: value.value,
-        answered: answered.value,
-        answers,
-        free_start: free.value,
-        live_number: live.value,
-        next: live.next,
+        answer,
+        free_start: next_number(text, at),
+        live_number: next_number(text, at),
+    })
+}
+
+fn change(index: usize, label: usize) -> Change {
+    Change {
+        index: PointIndex(read(index)),
+        label: LabelIndex(read(label)),
+    }
+}
+
+// What a call takes, of the line's arguments and numbers.
+impl Line {
+    pub fn change(&self) -> Change {
+        change(self.first, self.second)
+    }
+
+    pub fn point(&self) -> PointIndex {
+        self.change().index
+    }
+
+    pub fn label(&self) -> LabelIndex {
+        LabelIndex(read(self.first))
+    }
+
+    pub fn words(&self, alloc: Global) -> Result<Vec<FloatBits>, AllocError> {
+        self.numbers
+            .iter()
+            .map(|number| u32::try_from(*number).unwrap_or(0))
+            .collect(alloc)
+    }
+
+    pub fn pairs(&self, alloc: Global) -> Result<Vec<Pair>, AllocError> {
+        let mut pairs = Vec::new(alloc);
+        for four in self.numbers.chunks_exact(4) {
+            if let [inserted, its_label, deleted, other_label] = *four {
+                pairs.push(Pair {
+                    insert: change(inserted, its_label),
+                    delete: change(deleted, other_label),
+                })?;
+            }
+        }
+        Ok(pairs)
+    }
+
+    pub fn items(&self, alloc: Global) -> Result<Vec<Item>, AllocError> {
+        let mut items = Vec::new(alloc);
+        for two in self.numbers.chunks_exact(2) {
+            if let [index, weight] = *two {
+                items.push(Item {
+                    index: PointIndex(read(index)),
+                    weight: read(weight),
+                })?;
+            }
+        }
+        Ok(items)
     }
 }

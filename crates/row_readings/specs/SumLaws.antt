@@ -9,6 +9,7 @@ use Rattle.std.proofs.Math.Seq.{drop-cons}
 use borrow.Author.Tests.{lt-ltb, le-ltb, eq-eqb, ne_eqb, ltb-false}
 use Rattle.interval_store_manager.specs.Calls.{Decided, go, refuse}
 use Rattle.placement.specs.Row.{piece}
+use Rattle.store_definitions.specs.declared.Item.{Item}
 use Rattle.store_definitions.specs.declared.Store.{Store}
 use Rattle.store_definitions.specs.Memory.{PointStore, point_store, rows_alone}
 use Rattle.store_definitions.specs.Answers.{done, refused, output}
@@ -19,7 +20,7 @@ use Rattle.store_definitions.specs.WellFormed.{well_formed}
 use Rattle.store_laws.specs.DecisionLaws.{touch_go}
 use Rattle.store_rows.specs.Copying.{Readable, row_inside, read_place_lem}
 use Rattle.store_counts.specs.Tables.{counts_alone}
-use Rattle.row_readings.specs.Items.{weighted, weighting, weightings, Addable, AllAddable, checked_sum}
+use Rattle.row_readings.specs.Items.{weighted, weighting_of, weightings_of, no_item, item_at, Addable, AllAddable, checked_sum}
 
 -- ---- decisions in a row
 
@@ -68,40 +69,40 @@ module _ {E : Type 0} (p : PointStore E) where
   first_added add w ws sums = refl
 
   -- a decision to go holds of each item
-  pub each_goes : (items : List (List ℕ)) → items_decided p (weightings items) ≡ go → (k : ℕ) → k < length items → items_decided p (weighting (get_or items k []) ∷ []) ≡ go
-  unfolding weightings
+  pub each_goes : (items : List Item) → items_decided p (weightings_of items) ≡ go → (k : ℕ) → k < length items → items_decided p (weighting_of (item_at items k) ∷ []) ≡ go
+  unfolding weightings_of
   each_goes [] e k h = absurd (omega arith)
-  each_goes (r ∷ rs) e zero h = (then_go (items_decided p (weighting r ∷ [])) (items_decided p (weightings rs)) (sym (first_decided (weighting r) (weightings rs)) ∙ e)).0
+  each_goes (r ∷ rs) e zero h = (then_go (items_decided p (weighting_of r ∷ [])) (items_decided p (weightings_of rs)) (sym (first_decided (weighting_of r) (weightings_of rs)) ∙ e)).0
   each_goes (r ∷ rs) e (suc k) h =
-      each_goes rs (then_go (items_decided p (weighting r ∷ [])) (items_decided p (weightings rs)) (sym (first_decided (weighting r) (weightings rs)) ∙ e)).1 k (omega arith)
+      each_goes rs (then_go (items_decided p (weighting_of r ∷ [])) (items_decided p (weightings_of rs)) (sym (first_decided (weighting_of r) (weightings_of rs)) ∙ e)).1 k (omega arith)
 
   -- ---- the loops: from item i on
 
-  module _ (items : List (List ℕ)) (i : ℕ) (h : i < length items) where
-    next_item : weightings (drop i items) ≡ weighting (get_or items i []) ∷ weightings (drop (i + 1) items)
-    unfolding weightings
-    next_item = rw (add-one i, drop-cons items i [] h)
+  module _ (items : List Item) (i : ℕ) (h : i < length items) where
+    next_item : weightings_of (drop i items) ≡ weighting_of (item_at items i) ∷ weightings_of (drop (i + 1) items)
+    unfolding weightings_of
+    next_item = rw (add-one i, drop-cons items i no_item h)
 
-    next_decided : items_decided p (weightings (drop i items)) ≡ and_then (items_decided p (weighting (get_or items i []) ∷ [])) (items_decided p (weightings (drop (i + 1) items)))
-    next_decided = ap (items_decided p) next_item ∙ first_decided (weighting (get_or items i [])) (weightings (drop (i + 1) items))
+    next_decided : items_decided p (weightings_of (drop i items)) ≡ and_then (items_decided p (weighting_of (item_at items i) ∷ [])) (items_decided p (weightings_of (drop (i + 1) items)))
+    next_decided = ap (items_decided p) next_item ∙ first_decided (weighting_of (item_at items i)) (weightings_of (drop (i + 1) items))
 
-    pub next_added : {S : Type 0} (add : ℕ → List S → List E → List S) (sums : List S) → summed add p (weightings (drop i items)) sums ≡ summed add p (weightings (drop (i + 1) items)) (add (weighting (get_or items i [])).weight sums (stored_row p (weighting (get_or items i [])).index))
-    next_added add sums = ap (λ (ws : List Weighted). summed add p ws sums) next_item ∙ first_added add (weighting (get_or items i [])) (weightings (drop (i + 1) items)) sums
+    pub next_added : {S : Type 0} (add : ℕ → List S → List E → List S) (sums : List S) → summed add p (weightings_of (drop i items)) sums ≡ summed add p (weightings_of (drop (i + 1) items)) (add (weighting_of (item_at items i)).weight sums (stored_row p (weighting_of (item_at items i)).index))
+    next_added add sums = ap (λ (ws : List Weighted). summed add p ws sums) next_item ∙ first_added add (weighting_of (item_at items i)) (weightings_of (drop (i + 1) items)) sums
 
     -- a refusal of the item is the list's
-    pub refused_here : (d : Decided) → d ≡ items_decided p (weighting (get_or items i []) ∷ []) → (n : ℕ) → d ≡ refuse n → refuse n ≡ items_decided p (weightings (drop i items))
+    pub refused_here : (d : Decided) → d ≡ items_decided p (weighting_of (item_at items i) ∷ []) → (n : ℕ) → d ≡ refuse n → refuse n ≡ items_decided p (weightings_of (drop i items))
     refused_here d e n f = sym (next_decided ∙ rw (sym e ∙ f))
 
     -- else the others decide
-    pub goes_here : (d : Decided) → d ≡ items_decided p (weighting (get_or items i []) ∷ []) → d ≡ go → items_decided p (weightings (drop (i + 1) items)) ≡ items_decided p (weightings (drop i items))
+    pub goes_here : (d : Decided) → d ≡ items_decided p (weighting_of (item_at items i) ∷ []) → d ≡ go → items_decided p (weightings_of (drop (i + 1) items)) ≡ items_decided p (weightings_of (drop i items))
     goes_here d e f = sym (next_decided ∙ rw (sym e ∙ f))
 
-  pub none_decided : (items : List (List ℕ)) (i : ℕ) → length items ≤ i → items_decided p (weightings (drop i items)) ≡ go
-  unfolding items_decided weightings
+  pub none_decided : (items : List Item) (i : ℕ) → length items ≤ i → items_decided p (weightings_of (drop i items)) ≡ go
+  unfolding items_decided weightings_of
   none_decided items i h = rw (drop_of_length-le items {i = i} h)
 
-  pub none_added : {S : Type 0} (add : ℕ → List S → List E → List S) (items : List (List ℕ)) (i : ℕ) (sums : List S) → length items ≤ i → summed add p (weightings (drop i items)) sums ≡ sums
-  unfolding summed weightings
+  pub none_added : {S : Type 0} (add : ℕ → List S → List E → List S) (items : List Item) (i : ℕ) (sums : List S) → length items ≤ i → summed add p (weightings_of (drop i items)) sums ≡ sums
+  unfolding summed weightings_of
   none_added add items i sums h = rw (drop_of_length-le items {i = i} h)
 
   -- ---- the ways out of one item's test
@@ -135,9 +136,9 @@ module _ (s : Store) (floats : ℕ) (counts location : List ℕ) (r : Readable s
         weight_most = ltb-false 16777216 w.weight (unless_heavy (ltb 16777216 w.weight) (then_go heavy go parts.1).0);
       }
 
-  pub all_addable : (items : List (List ℕ)) → items_decided (point_store s (counts_alone counts [])) (weightings items) ≡ go → AllAddable s floats location items
+  pub all_addable : (items : List Item) → items_decided (point_store s (counts_alone counts [])) (weightings_of items) ≡ go → AllAddable s floats location items
   all_addable items e =
-      record { each = λ k h. addable (weighting (get_or items k [])) (each_goes (point_store s (counts_alone counts [])) items e k h) }
+      record { each = λ k h. addable (weighting_of (item_at items k)) (each_goes (point_store s (counts_alone counts [])) items e k h) }
 
 -- the row that the code reads
 pub row_read : {E : Type 0} (s : Store) (elements : List E) (location : List ℕ) (i : ℕ) → i < length location

@@ -5,11 +5,12 @@ ghost use Rattle.store_definitions.specs.IndexLists.{value_limit, values_below, 
 ghost use Rattle.row_readings.specs.Shingled.{Shingled};
 ghost use Rattle.row_readings.specs.IndexReadings.{FirstIndex};
 
-use store_definitions::{Done, Store};
+use store_definitions::Store;
 use terms::Refusal;
 
 const LARGEST_LOOK_AHEAD: usize = 65535;
 
+#[tactic(auto, unfolding(store_definitions::specs::IndexLists::value_limit))]
 fn value_limit(s: Store) -> usize
     requires { Shingled s }
     ensures { result ≡ value_limit s }
@@ -21,14 +22,13 @@ fn value_limit(s: Store) -> usize
 }
 
 // Which value is too large is not asked, so there is no early exit.
+#[tactic(auto, using(crate::proofs::ListTurns::below_turn, crate::proofs::ListTurns::below_end))]
 fn values_below(values: &[usize], limit: usize) -> bool
     ensures { result ≡ values_below limit values.now }
 {
     let mut below = true;
-    let mut i = 0;
-    while i < values.len() {
-        below = below & (values[i] < limit);
-        i += 1;
+    for value in values {
+        below = below & (*value < limit);
     }
     below
 }
@@ -55,10 +55,8 @@ fn move_values(first: usize, values: &[usize], out: &mut [usize])
     requires { (length out.old ≡ length values.now) × ((i : ℕ) → i < length values.now → first + get_or values.now i 0 < 2 ^ 64) }
     ensures { out.new ≡ map (λ v. first + v) values.now }
 {
-    let mut i = 0;
-    while i < values.len() {
-        out[i] = first + values[i];
-        i += 1;
+    for (i, value) in values.iter().enumerate() {
+        out[i] = first + *value;
     }
 }
 
@@ -66,10 +64,8 @@ fn count_from(first: usize, out: &mut [usize])
     requires { first + length out.old < 2 ^ 64 }
     ensures { out.new ≡ map (λ v. first + v) (up_to (length out.old) []) }
 {
-    let mut i = 0;
-    while i < out.len() {
-        out[i] = first + i;
-        i += 1;
+    for (i, entry) in out.iter_mut().enumerate() {
+        *entry = first + i;
     }
 }
 
@@ -79,37 +75,35 @@ pub fn missing_indices_unchecked(
     look_ahead: usize,
     values: &[usize],
     out: &mut [usize],
-) -> Done
+) -> Result<(), Refusal>
     requires { Shingled s }
     ensures { output (done_means result) out.new ≡ indices_written s look_ahead values.now out.old }
 {
     if out.len() != values.len() {
-        return Done::Refused(Refusal::Length);
+        return Err(Refusal::Length);
     }
     if LARGEST_LOOK_AHEAD < look_ahead {
-        return Done::Refused(Refusal::ValueTooLarge);
+        return Err(Refusal::ValueTooLarge);
     }
-    let limit = value_limit(s);
-    if values_below(values, limit) {
-        let first = first_index(s, look_ahead);
-        move_values(first, values, out);
-        return Done::Done;
+    if !values_below(values, value_limit(s)) {
+        return Err(Refusal::ValueTooLarge);
     }
-    Done::Refused(Refusal::ValueTooLarge)
+    move_values(first_index(s, look_ahead), values, out);
+    Ok(())
 }
 
-pub fn next_indices_unchecked(s: Store, look_ahead: usize, out: &mut [usize]) -> Done
+pub fn next_indices_unchecked(s: Store, look_ahead: usize, out: &mut [usize]) -> Result<(), Refusal>
     requires { Shingled s }
     ensures { output (done_means result) out.new ≡ indices_written s look_ahead (next_values s) out.old }
 {
     let base = s.dimensions / s.shingle_size;
     if out.len() != base {
-        return Done::Refused(Refusal::Length);
+        return Err(Refusal::Length);
     }
     if LARGEST_LOOK_AHEAD < look_ahead {
-        return Done::Refused(Refusal::ValueTooLarge);
+        return Err(Refusal::ValueTooLarge);
     }
     let first = first_index(s, look_ahead);
     count_from(first, out);
-    Done::Done
+    Ok(())
 }

@@ -6,7 +6,7 @@ ghost use Rattle.store_definitions.specs.Preview.{shown, preview_written};
 ghost use Rattle.row_readings.specs.Previews.{Shown};
 
 use placement_rows::{copy_from, move_window};
-use store_definitions::{Done, Store};
+use store_definitions::Store;
 use terms::{FloatBits, Refusal};
 
 // The point stands last in the moved window or, rotating, over entry (sequence × base) mod dimensions of the unmoved one.
@@ -36,13 +36,13 @@ pub fn shingled_point_unchecked(
     last_known_shingle: &[FloatBits],
     point: &[FloatBits],
     out: &mut [FloatBits],
-) -> Done
+) -> Result<(), Refusal>
     requires { (Shingled s) × (s.dimensions ≤ length last_known_shingle.now) }
     ensures { output (done_means result) out.new ≡ preview_written s last_known_shingle.now point.now out.old }
 {
     let dimensions = s.dimensions;
     if out.len() != dimensions {
-        return Done::Refused(Refusal::Length);
+        return Err(Refusal::Length);
     }
     let base = dimensions / s.shingle_size;
     if (point.len() == base) & (1 < s.shingle_size) {
@@ -55,13 +55,13 @@ pub fn shingled_point_unchecked(
                 point,
                 out,
             );
-            return Done::Done;
+            return Ok(());
         }
-        return Done::Refused(Refusal::Length);
+        return Err(Refusal::Length);
     }
     if point.len() != dimensions {
-        return Done::Refused(Refusal::Length);
+        return Err(Refusal::Length);
     }
     copy_from(out, 0, point);
-    Done::Done
+    Ok(())
 }

@@ -1,5 +1,5 @@
 // Stored rows times their weights, added up, unturned. Every item is judged before anything is written.
-ghost use Rattle.std.specs.Prelude.{[], ◌∷◌, ◌≡◌, length, replicate};
+ghost use Rattle.std.specs.Prelude.{[], ◌∷◌, ◌≡◌, length};
 ghost use Rattle.float_bits.specs.Rows.{add_scaled};
 ghost use Rattle.float_bits.specs.Words.{float_of, plus_zero};
 ghost use Rattle.interval_store_manager.specs.Calls.{decision_means};
@@ -8,85 +8,59 @@ ghost use Rattle.store_definitions.specs.Answers.{done_means, output};
 ghost use Rattle.store_definitions.specs.Memory.{point_store, rows_alone};
 ghost use Rattle.store_definitions.specs.Sums.{items_decided, stored_row, summed};
 ghost use Rattle.store_rows.specs.Copying.{Readable};
-ghost use Rattle.row_readings.specs.Items.{weighted, weightings, Addable, AllAddable, checked_sum};
+ghost use Rattle.row_readings.specs.Items.{weighting_of, weightings_of, Addable, AllAddable, checked_sum};
 
 use float_bits::add_scaled;
-use interval_store_manager::Decision;
 use store_counts::point_in_use;
-use store_definitions::{Done, Store};
-use terms::{FloatBits, PointIndex, Refusal};
+use store_definitions::{Item, Store};
+use terms::{FloatBits, Refusal};
 
 // Document 01: 'weight above 16,777,216'. Up to it a weight's float is the weight itself.
 const LARGEST_WEIGHT: usize = 16_777_216;
 
-// One item, its index first.
-pub fn item_test(s: Store, reference_count: &[u16], index: usize, weight: usize) -> Decision
-    ensures { decision_means result ≡ items_decided (point_store s (counts_alone reference_count.now [])) (weighted index weight ∷ []) }
+#[tactic(auto, using(crate::specs::SumLaws::item_dead, crate::specs::SumLaws::item_heavy, crate::specs::SumLaws::item_goes))]
+fn item_test(s: Store, reference_count: &[u16], item: Item) -> Result<(), Refusal>
+    ensures { decision_means result ≡ items_decided (point_store s (counts_alone reference_count.now [])) (weighting_of item ∷ []) }
 {
-    let point = PointIndex(index);
-    if !point_in_use(s, reference_count, point) {
-        return Decision::Refuse(Refusal::PointNotInUse);
+    if !point_in_use(s, reference_count, item.index) {
+        return Err(Refusal::PointNotInUse);
     }
-    if LARGEST_WEIGHT < weight {
-        return Decision::Refuse(Refusal::ValueTooLarge);
+    if LARGEST_WEIGHT < item.weight {
+        return Err(Refusal::ValueTooLarge);
     }
-    Decision::Go
+    Ok(())
 }
 
-fn items_test(s: Store, reference_count: &[u16], items: &[[usize; 2]]) -> Decision
-    ensures { decision_means result ≡ items_decided (point_store s (counts_alone reference_count.now [])) (weightings items.now) }
+fn items_test(s: Store, reference_count: &[u16], items: &[Item]) -> Result<(), Refusal>
+    ensures { decision_means result ≡ items_decided (point_store s (counts_alone reference_count.now [])) (weightings_of items.now) }
 {
-    let mut i = 0;
-    while i < items.len() {
-        let item = items[i];
-        let decision = item_test(s, reference_count, item[0], item[1]);
-        if let Decision::Refuse(why) = decision {
-            return Decision::Refuse(why);
-        }
-        i += 1;
+    for item in items {
+        item_test(s, reference_count, *item)?;
     }
-    Decision::Go
-}
-
-pub fn clear(out: &mut [f32])
-    ensures { out.new ≡ replicate (length out.old) (float_of plus_zero) }
-{
-    let mut i = 0;
-    while i < out.len() {
-        out[i] = 0.0;
-        i += 1;
-    }
+    Ok(())
 }
 
 // One item that was judged: its row as it is stored, times its weight, is added to the sums.
-pub fn add_item(
-    s: Store,
-    store: &[FloatBits],
-    location: &[u16],
-    index: usize,
-    weight: usize,
-    out: &mut [f32],
-)
-    requires { (length out.old ≡ s.dimensions) × Addable s (length store.now) location.now (weighted index weight) }
-    ensures { out.new ≡ add_scaled weight out.old (stored_row (point_store s (rows_alone store.now [] location.now)) index) }
+#[tactic(auto, using(crate::specs::SumLaws::row_read))]
+fn add_item(s: Store, store: &[FloatBits], location: &[u16], item: Item, out: &mut [f32])
+    requires { (length out.old ≡ s.dimensions) × Addable s (length store.now) location.now (weighting_of item) }
+    ensures { out.new ≡ add_scaled item.weight out.old (stored_row (point_store s (rows_alone store.now [] location.now)) item.index.0) }
 {
     let dimensions = s.dimensions;
     let base = dimensions / s.shingle_size;
-    let place = location[index] as usize;
+    let place = location[item.index.0] as usize;
     let start = place * base;
     let end = start + dimensions;
-    add_scaled(out, &store[start..end], weight);
+    add_scaled(out, &store[start..end], item.weight);
 }
 
-fn add_items(s: Store, store: &[FloatBits], location: &[u16], items: &[[usize; 2]], out: &mut [f32])
+#[tactic(auto, using(crate::specs::SumLaws::next_added, crate::specs::SumLaws::none_added))]
+fn add_items(s: Store, store: &[FloatBits], location: &[u16], items: &[Item], out: &mut [f32])
     requires { (length out.old ≡ s.dimensions) × AllAddable s (length store.now) location.now items.now }
-    ensures { out.new ≡ summed add_scaled (point_store s (rows_alone store.now [] location.now)) (weightings items.now) out.old }
+    ensures { out.new ≡ summed add_scaled (point_store s (rows_alone store.now [] location.now)) (weightings_of items.now) out.old }
 {
-    let mut i = 0;
-    while i < items.len() {
-        let item = items[i];
-        add_item(s, store, location, item[0], item[1], out);
-        i += 1;
+    for item in items {
+        add_item(s, store, location, *item, out);
     }
 }
 
@@ -95,23 +69,17 @@ pub fn point_sum_unchecked(
     store: &[FloatBits],
     reference_count: &[u16],
     location: &[u16],
-    items: &[[usize; 2]],
+    items: &[Item],
     out: &mut [f32],
-) -> Done
+) -> Result<(), Refusal>
     requires { Readable s (length store.now) reference_count.now location.now }
-    ensures { output (done_means result) out.new ≡ checked_sum add_scaled (float_of plus_zero) s store.now reference_count.now location.now (weightings items.now) out.old }
+    ensures { output (done_means result) out.new ≡ checked_sum add_scaled (float_of plus_zero) s store.now reference_count.now location.now (weightings_of items.now) out.old }
 {
-    let dimensions = s.dimensions;
-    if out.len() != dimensions {
-        return Done::Refused(Refusal::Length);
+    if out.len() != s.dimensions {
+        return Err(Refusal::Length);
     }
-    let decision = items_test(s, reference_count, items);
-    match decision {
-        Decision::Refuse(why) => Done::Refused(why),
-        Decision::Go => {
-            clear(out);
-            add_items(s, store, location, items, out);
-            Done::Done
-        }
-    }
+    items_test(s, reference_count, items)?;
+    out.fill(0.0);
+    add_items(s, store, location, items, out);
+    Ok(())
 }

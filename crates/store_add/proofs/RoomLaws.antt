@@ -1,15 +1,13 @@
 -- The room that an add makes, branch by branch; what growth fills; the row before and after the window moves.
 use Prim.Native.Nat.{ℕ, ◌+◌, ◌*◌, ◌-◌, ◌/◌, ◌≤◌, ◌<◌}
 use native.Mathlib.Nat.{le_of_eq, le_of_dvd, div-le_self}
-use native.Mathlib.Decide.{dec_lt}
 use native.Mathlib.Omega.{arith}
-use mathlib.Core.Bool.{Bool, true, false, cond, not}
+use mathlib.Core.Bool.{Bool, true, false, cond}
 use mathlib.Core.List.{List, ◌++◌}
-use mathlib.Core.Path.{◌≡◌, refl, sym, ◌∙◌, ap, subst}
+use mathlib.Core.Path.{◌≡◌, refl, sym, ◌∙◌, ap, ap₂, subst}
 use lib.ListN.{length, take, drop, replicate, length-replicate, length-append, length-drop}
 use lib.Seq.{take_all, take_at, length-take-le}
-use lib.Dec.{ltb, leb}
-use borrow.Author.Tests.{lt-ltb, le-ltb, le-leb, lt-leb}
+use borrow.Author.Tests.{lt-ltb, le-ltb}
 use Rattle.float_bits.specs.Words.{words_equal}
 use Rattle.placement.specs.Compaction.{Layout}
 use Rattle.placement.specs.Growth.{grown, grown_within_lem}
@@ -25,7 +23,9 @@ use Rattle.store_definitions.specs.Adding.{point_length, joins, overflows}
 use Rattle.store_definitions.specs.Rows.{compacted_rows, grown_rows, short, room_made}
 use Rattle.store_laws.specs.BoundsLaws.{InBounds, base_divides}
 use Rattle.store_laws.specs.RowsLaws.{RowsOf, compacted_sound, room_sound}
-use Rattle.store_add.specs.Pieces.{rows_at, rows_in, window_moved, row_from}
+use Rattle.store_add.specs.Pieces.{rows_at, rows_in, with_extent, joined_if_fits, window_moved, row_from}
+use Rattle.terms.specs.declared.Refusal.TheVariants.{FloatSpaceFull}
+use Rattle.std.specs.Prelude.{Ok, Err}
 use Rattle.store_add.specs.Requires.{Roomy, Rowed}
 
 -- entries filled one by one are entries replaced at once
@@ -167,13 +167,25 @@ module _ (s : Store) (window point : List ℕ) (w : Rowed s window point) where
   unfolding joins
   joins_are r j h = h ∙ ap (overlaps words_equal s.shingle_size (dims - base) r.free r.elements) row_before
 
--- whether the row fits
-leb_not : (a b : ℕ) → leb a b ≡ not (ltb b a)
-leb_not a b = elim (dec_lt b a) [ yes h ↦ rw (lt-leb a b h, lt-ltb b a h) | no h ↦ rw (le-leb a b (omega arith), le-ltb b a (omega arith)) ]
+  -- and by the record that the room left
+  pub joins_after : (s' : Store) (e l : List ℕ) → s' ≡ with_extent s'.start_free_region s'.store_length s → (j : Bool) → j ≡ overlaps words_equal s'.shingle_size (dims - base) s'.start_free_region e (row_to_lay s'.internal_shingling (moved_window base (take (base + (dims - base)) window) point) point) → j ≡ joins words_equal s (rows_in s' e l) (row_from s window point)
+  joins_after s' e l f j h =
+      joins_are (rows_in s' e l) j
+      (h
+      ∙ ap₂
+      (λ (n : ℕ) (b : Bool). overlaps words_equal n (dims - base) s'.start_free_region e (row_to_lay b (moved_window base (take (base + (dims - base)) window) point) point))
+      (ap (λ (x : Store). x.shingle_size) f)
+      (ap (λ (x : Store). x.internal_shingling) f))
 
-pub fits_are : (s : Store) (r : Rows ℕ) (row : List ℕ) (j : Bool) (n : ℕ) → j ≡ joins words_equal s r row → n ≡ written_count s.dimensions (base_of s) j → leb (r.free + n) r.store_length ≡ not (overflows words_equal s r row)
-unfolding overflows
-fits_are s r row j n h g = rw (g, h) (leb_not (r.free + written_count s.dimensions (base_of s) (joins words_equal s r row)) r.store_length)
+-- whether the row fits
+module _ (s : Store) (r : Rows ℕ) (row : List ℕ) (j : Bool) (n : ℕ) (e : j ≡ joins words_equal s r row) (f : n ≡ written_count s.dimensions (base_of s) j) where
+  pub fits_then : r.free + n ≤ r.store_length → Ok j ≡ joined_if_fits words_equal s r row
+  unfolding joined_if_fits overflows
+  fits_then h = rw (sym e, sym f, le-ltb r.store_length (r.free + n) h)
+
+  pub fits_not : r.store_length < r.free + n → Err FloatSpaceFull ≡ joined_if_fits words_equal s r row
+  unfolding joined_if_fits overflows
+  fits_not h = rw (sym e, sym f, lt-ltb r.store_length (r.free + n) h)
 
 pub written_most : (dims base : ℕ) (j : Bool) → base ≤ dims → written_count dims base j ≤ dims
 unfolding written_count

@@ -1,5 +1,6 @@
 -- An add's decision once the store is known to be well-formed: of the record, the point's length and the code alone.
-use Rattle.std.specs.Prelude.{ℕ, ◌≤◌, ◌<◌, true, false, cond, not, List, ◌≡◌, length, eqb}
+use Rattle.std.specs.Prelude.{ℕ, ◌≤◌, ◌<◌, true, false, cond, not, List, ◌≡◌, length, eqb, Result, Ok, Err}
+use Rattle.terms.specs.declared.Refusal.{Refusal}
 use Rattle.terms.specs.Refusals.{number}
 use Rattle.labels.specs.Decisions.{code_decided, room_decided}
 use Rattle.store_definitions.specs.declared.Store.{Store}
@@ -9,18 +10,22 @@ use Rattle.store_definitions.specs.Adding.{point_length, waits, table_full, AddD
 use Rattle.store_definitions.specs.WellFormed.{well_formed}
 use Rattle.store_definitions.specs.Parts.{table_length}
 use Rattle.store_laws.specs.Sound.{sound}
-use Rattle.store_add.specs.declared.AddDecision.{AddDecision}
-use Rattle.store_add.specs.declared.AddDecision.TheVariants as at_decision
+use Rattle.store_definitions.specs.declared.Kept.{Kept}
+use Rattle.store_definitions.specs.Answers.{Answer, kept, refused}
+use Rattle.store_add.specs.declared.decide.AddStep.{AddStep}
+use Rattle.store_add.specs.declared.decide.AddStep.TheVariants.{Keep, Wait}
 
-abbrev pub decision_means : AddDecision → AddDecided
-decision_means at_decision.Keep = keep
-decision_means at_decision.Wait = wait
-decision_means (at_decision.Refuse r) = refuse_add (number r)
+abbrev pub decision_means : Result AddStep Refusal → AddDecided
+decision_means (Ok Keep) = keep
+decision_means (Ok Wait) = wait
+decision_means (Err r) = refuse_add (number r)
+
+-- an add that keeps its point if there is room for the row
+abbrev pub kept_means : Result Kept Refusal → Answer
+kept_means (Ok k) = kept k.index.0 k.label.0 k.laid k.free_indices
+kept_means (Err r) = refused (number r)
 
 -- '8, 9' of an add that does not wait
-unfoldable pub table_asked : Store → AddDecided
-table_asked s = then_add (refuse_if (table_full s) 9) keep
-
 unfoldable pub keep_asked : Store → AddDecided
 keep_asked s = cond (waits s) wait (then_add (and_then (room_decided s.store_labels s.label_manager) (refuse_if (table_full s) 9)) keep)
 

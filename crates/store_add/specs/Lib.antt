@@ -1,4 +1,3 @@
 pub mod Deciding
 pub mod Pieces
 pub mod Requires
-pub mod Answering

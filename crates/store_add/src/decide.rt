@@ -2,18 +2,25 @@
 ghost use Rattle.std.specs.Prelude.{◌≡◌, ◌≤◌, ◌<◌};
 ghost use Rattle.store_definitions.specs.Adding.{point_length, waits, table_full};
 ghost use Rattle.store_definitions.specs.Parts.{table_length};
-ghost use Rattle.store_add.specs.Deciding.{decision_means, table_asked, keep_asked, add_asked};
+ghost use Rattle.store_add.specs.Deciding.{decision_means, keep_asked, add_asked};
 
-use crate::AddDecision;
-use interval_store_manager::Decision;
 use labels::{code_decision, room_decision};
 use placement_rows::grown_length;
 use store_definitions::Store;
 use terms::Refusal;
 
 // Document 01: 'sequence number at 4,294,967,295'.
+// Kept: here it ends the adds; in `store_check` the same number is a clause of the record.
 const LAST_SEQUENCE: u32 = 4294967295;
 
+// What an add that is not refused does: it keeps its point, or it waits for more points of the shingle.
+#[derive(Clone, Copy, PartialEq, Eq, Debug)]
+pub enum AddStep {
+    Keep,
+    Wait,
+}
+
+#[tactic(auto, unfolding(store_definitions::specs::Adding::point_length))]
 fn point_length(s: Store) -> usize
     requires { 0 < s.shingle_size }
     ensures { result ≡ point_length s }
@@ -24,6 +31,7 @@ fn point_length(s: Store) -> usize
     s.dimensions
 }
 
+#[tactic(auto, unfolding(store_definitions::specs::Adding::waits))]
 fn still_waits(s: Store) -> bool
     ensures { result ≡ waits s }
 {
@@ -34,6 +42,7 @@ fn still_waits(s: Store) -> bool
 }
 
 // No index is free, and growth gives none.
+#[tactic(auto, unfolding(store_definitions::specs::Adding::table_full))]
 fn table_full(s: Store) -> bool
     requires { table_length s ≤ s.capacity }
     ensures { result ≡ table_full s }
@@ -45,44 +54,32 @@ fn table_full(s: Store) -> bool
     false
 }
 
-fn table_decision(s: Store) -> AddDecision
-    requires { table_length s ≤ s.capacity }
-    ensures { decision_means result ≡ table_asked s }
-{
-    if table_full(s) {
-        return AddDecision::Refuse(Refusal::PointsFull);
-    }
-    AddDecision::Keep
-}
-
-fn keep_decision(s: Store) -> AddDecision
+#[tactic(auto, unfolding(crate::specs::Deciding::keep_asked))]
+fn keep_decision(s: Store) -> Result<AddStep, Refusal>
     requires { table_length s ≤ s.capacity }
     ensures { decision_means result ≡ keep_asked s }
 {
     if still_waits(s) {
-        return AddDecision::Wait;
+        return Ok(AddStep::Wait);
     }
-    let manager = s.label_manager;
-    let labelled = room_decision(s.store_labels, manager);
-    match labelled {
-        Decision::Refuse(why) => AddDecision::Refuse(why),
-        Decision::Go => table_decision(s),
+    room_decision(s.store_labels, s.label_manager)?;
+    if table_full(s) {
+        return Err(Refusal::PointsFull);
     }
+    Ok(AddStep::Keep)
 }
 
-pub fn add_decision(s: Store, length: usize, code: usize) -> AddDecision
+#[tactic(auto, unfolding(crate::specs::Deciding::add_asked))]
+pub fn add_decision(s: Store, length: usize, code: usize) -> Result<AddStep, Refusal>
     requires { (0 < s.shingle_size) × (table_length s ≤ s.capacity) }
     ensures { decision_means result ≡ add_asked s length code }
 {
     if length != point_length(s) {
-        return AddDecision::Refuse(Refusal::Length);
+        return Err(Refusal::Length);
     }
     if s.next_sequence_index == LAST_SEQUENCE {
-        return AddDecision::Refuse(Refusal::SequenceFull);
+        return Err(Refusal::SequenceFull);
     }
-    let coded = code_decision(s.store_labels, code);
-    match coded {
-        Decision::Refuse(why) => AddDecision::Refuse(why),
-        Decision::Go => keep_decision(s),
-    }
+    code_decision(s.store_labels, code)?;
+    keep_decision(s)
 }

@@ -1,66 +1,40 @@
 // Room for a row: compaction, growth of the store, and whether the row fits then.
-ghost use Rattle.std.specs.Prelude.{not, ◌≡◌};
+ghost use Rattle.std.specs.Prelude.{◌≡◌};
 ghost use Rattle.float_bits.specs.Words.{words_equal};
 ghost use Rattle.placement.specs.Laying.{written_count};
-ghost use Rattle.store_definitions.specs.Adding.{joins, overflows};
 ghost use Rattle.store_definitions.specs.Rows.{room_made};
-ghost use Rattle.store_add.specs.Pieces.{rows_at, rows_in, row_from};
+ghost use Rattle.store_add.specs.Pieces.{rows_in, row_from, with_extent, joined_if_fits};
 ghost use Rattle.store_add.specs.Requires.{Roomy, Rowed};
 
 use placement_rows::{Shape, compact, grow_store, grown_length, row_joins};
 use store_definitions::Store;
-use terms::FloatBits;
+use terms::{FloatBits, Refusal};
 
-// Free start and store length as compaction and growth leave them.
-#[derive(Clone, Copy)]
-pub struct Extent {
-    pub start_free_region: usize,
-    pub store_length: usize,
-}
-
-// Room made, whether the row joins what stands before it, and whether it fits.
-#[derive(Clone, Copy)]
-pub struct Room {
-    pub extent: Extent,
-    pub joined: bool,
-    pub fits: bool,
-}
-
-fn make_room(s: Store, store: &mut [FloatBits], location: &mut [u16]) -> Extent
-    requires { Roomy s store.old location.old }
-    ensures { rows_at result.start_free_region result.store_length store.new location.new ≡ room_made 0 s (rows_in s store.old location.old) }
+// Room for one row more, as far as compaction and growth give it.
+fn make_room(s: &mut Store, store: &mut [FloatBits], location: &mut [u16])
+    requires { Roomy s.old store.old location.old }
+    ensures rows { rows_in s.new store.new location.new ≡ room_made 0 s.old (rows_in s.old store.old location.old) }
+    ensures rest { s.new ≡ with_extent s.new.start_free_region s.new.store_length s.old }
 {
     let dimensions = s.dimensions;
     let length = s.store_length;
     let free = s.start_free_region;
     if free + dimensions <= length {
-        return Extent {
-            start_free_region: free,
-            store_length: length,
-        };
+        return;
     }
-    let shape = Shape {
-        dimensions,
-        base: dimensions / s.shingle_size,
-        rotation: s.internal_rotation,
-    };
-    let table_length = s.index_manager.capacity;
-    let start = compact(store, location, table_length, shape, free);
+    let shape = Shape::new(dimensions, s.shingle_size, s.internal_rotation);
+    let start = compact(store, location, s.index_manager.capacity, shape, free);
+    s.start_free_region = start;
     if start + dimensions <= length {
-        return Extent {
-            start_free_region: start,
-            store_length: length,
-        };
+        return;
     }
     let longer = grown_length(length, dimensions, s.capacity * dimensions);
     grow_store(store, length, longer);
-    Extent {
-        start_free_region: start,
-        store_length: longer,
-    }
+    s.store_length = longer;
 }
 
 // How many words are written.
+#[tactic(auto, unfolding(placement::specs::Laying::written_count))]
 fn written(dimensions: usize, base: usize, joined: bool) -> usize
     ensures { result ≡ written_count dimensions base joined }
 {
@@ -70,23 +44,23 @@ fn written(dimensions: usize, base: usize, joined: bool) -> usize
     dimensions
 }
 
-// The window is not moved yet.
+// Answers whether the row joins what stands before it. The window is not moved yet. Where the row does not fit, what compaction and
+// growth did stands.
 pub fn find_room<'a>(
-    s: Store,
+    s: &mut Store,
     store: &mut [FloatBits],
     location: &mut [u16],
     window: &'a [FloatBits],
     point: &'a [FloatBits],
-) -> Room
-    requires { Roomy s store.old location.old × Rowed s window.now point.now }
-    ensures rows { rows_at result.extent.start_free_region result.extent.store_length store.new location.new ≡ room_made 0 s (rows_in s store.old location.old) }
-    ensures joined { result.joined ≡ joins words_equal s (rows_at result.extent.start_free_region result.extent.store_length store.new location.new) (row_from s window.now point.now) }
-    ensures fits { result.fits ≡ not (overflows words_equal s (rows_at result.extent.start_free_region result.extent.store_length store.new location.new) (row_from s window.now point.now)) }
+) -> Result<bool, Refusal>
+    requires { Roomy s.old store.old location.old × Rowed s.old window.now point.now }
+    ensures rows { rows_in s.new store.new location.new ≡ room_made 0 s.old (rows_in s.old store.old location.old) }
+    ensures rest { s.new ≡ with_extent s.new.start_free_region s.new.store_length s.old }
+    ensures answer { result ≡ joined_if_fits words_equal s.old (rows_in s.new store.new location.new) (row_from s.old window.now point.now) }
 {
-    let extent = make_room(s, store, location);
     let dimensions = s.dimensions;
     let base = dimensions / s.shingle_size;
-    let free = extent.start_free_region;
+    make_room(s, store, location);
     let joined = row_joins(
         store,
         window,
@@ -95,12 +69,10 @@ pub fn find_room<'a>(
         s.shingle_size,
         base,
         dimensions - base,
-        free,
+        s.start_free_region,
     );
-    let fits = free + written(dimensions, base, joined) <= extent.store_length;
-    Room {
-        extent,
-        joined,
-        fits,
+    if s.start_free_region + written(dimensions, base, joined) <= s.store_length {
+        return Ok(joined);
     }
+    Err(Refusal::FloatSpaceFull)
 }

@@ -8,7 +8,7 @@ use Rattle.interval_store_manager.specs.Calls.{Decided, go, refuse}
 use Rattle.labels.specs.Decisions.{none}
 use Rattle.store_definitions.specs.declared.Store.{Store}
 use Rattle.store_definitions.specs.Memory.{Memory, PointStore, point_store}
-use Rattle.store_definitions.specs.Answers.{Outcome}
+use Rattle.store_definitions.specs.Answers.{Answer, Outcome, outcome}
 use Rattle.store_definitions.specs.Decisions.{and_then, form_decided, live, touch_decided}
 use Rattle.store_definitions.specs.Counting.{Pairing, inc_test, dec_test, incremented, decremented, pair_decided, pair_done, unless_refused, adjust_from, adjust_spec}
 use Rattle.store_check.specs.CheckLaws.{elementless}
@@ -83,3 +83,10 @@ module _ {F : Type 0} (s : Store) (m : Memory F) (qs : List Pairing) where
   adjust_same =
       carried (form_decided bare)
       ∙ ap (λ (d : Decided). unless_refused d 0 whole (adjust_from 0 qs whole)) (form_same s m)
+
+-- so a call on the tables alone, of a store whose elements stay, is the call on the whole
+pub adjust_whole : {F : Type 0} (s t : Store) (m n : Memory F) → n.store ≡ m.store → n.last_known_shingle ≡ m.last_known_shingle → (answer : Answer) (qs : List Pairing) → outcome answer (point_store t (elementless n)) ≡ adjust_spec (point_store s (elementless m)) qs → outcome answer (point_store t n) ≡ adjust_spec (point_store s m) qs
+adjust_whole {F = F} s t m n rows window answer qs e =
+    ap₂ (λ (xs ys : List F). outcome answer (refilled xs ys (point_store t (elementless n)))) rows window
+    ∙ ap (λ (o : Outcome (Unit {0})). refilled_outcome m.store m.last_known_shingle o) e
+    ∙ adjust_same s m qs

@@ -1,6 +1,6 @@
 -- A pair's dec is judged on the counts that its inc raised; since the inc's own counts were above 0 already, the counts before
 -- it decide alike. Then what a pair's parts come to.
-use Rattle.std.specs.Prelude.{ℕ, ◌+◌, ◌<◌, Bool, List, ◌≡◌, length, get_or, set, ltb, eqb}
+use Rattle.std.specs.Prelude.{ℕ, ◌+◌, ◌<◌, Bool, List, ◌≡◌, length, get_or, set, ltb, eqb, Result, Ok, Err}
 use Rattle.std.proofs.Common.{arith, ◌∙◌}
 use Rattle.std.proofs.Math.Decide.{dec_lt}
 use Rattle.std.proofs.Math.Bool.{true, false, cond}
@@ -9,8 +9,6 @@ use Rattle.std.proofs.Math.ListN.{get_or-eq_default}
 use borrow.Author.Tests.{eq-eqb, ne_eqb, lt-ltb}
 use Rattle.terms.specs.declared.Refusal.{Refusal}
 use Rattle.terms.specs.Refusals.{number}
-use Rattle.interval_store_manager.specs.declared.Decision.{Decision}
-use Rattle.interval_store_manager.specs.declared.Decision.TheVariants.{Go, Refuse}
 use Rattle.interval_store_manager.specs.Calls.{Decided, go, refuse, decision_means}
 use Rattle.labels.specs.Counted.{raised}
 use Rattle.terms.specs.Entries.{stored}
@@ -27,7 +25,7 @@ use Rattle.store_laws.specs.Cases.{by_cases}
 use Rattle.store_laws.specs.CountingLaws.{inc_accepted, pair_accepted}
 use Rattle.store_laws.specs.DecisionLaws.{both_go, touch_go, inc_label_go}
 use Rattle.store_counts.specs.Tables.{counts_alone}
-use Rattle.store_adjust.specs.Pairs.{pair_test, pair_spec}
+use Rattle.store_adjust.specs.Pairs.{pair_of, pair_test, pair_spec}
 
 -- a count above 0 that rises leaves the same counts above 0
 still : (xs : List ℕ) (i j : ℕ) → 0 < get_or xs i 0 → ltb 0 (get_or (set xs i (get_or xs i 0 + 1)) j 0) ≡ ltb 0 (get_or xs j 0)
@@ -72,16 +70,16 @@ module _ {E : Type 0} (p : PointStore E) where
   test_alone q = refl
 
   -- the ways out of the test, by the decisions of inc and dec
-  module _ (q : Pairing) (a : Decision) (e : decision_means a ≡ inc_test p q.insert_index q.insert_label) where
-    pub test_refused : (r : Refusal) → a ≡ Refuse r → refuse (number r) ≡ pair_test p q
+  module _ (q : Pairing) (a : Result Unit Refusal) (e : decision_means a ≡ inc_test p q.insert_index q.insert_label) where
+    pub test_refused : (r : Refusal) → a ≡ Err r → refuse (number r) ≡ pair_test p q
     unfolding pair_test
     test_refused r f = rw (sym e ∙ ap decision_means f)
 
-    pub test_inc : a ≡ Go → q.delete_index ≡ none → go ≡ pair_test p q
+    pub test_inc : a ≡ Ok tt → q.delete_index ≡ none → go ≡ pair_test p q
     unfolding pair_test
     test_inc f n = rw (sym e ∙ ap decision_means f, eq-eqb q.delete_index none n)
 
-    pub test_dec : a ≡ Go → (q.delete_index ≡ none → ⊥) → (d : Decided) → d ≡ dec_test p q.delete_index q.delete_label → d ≡ pair_test p q
+    pub test_dec : a ≡ Ok tt → (q.delete_index ≡ none → ⊥) → (d : Decided) → d ≡ dec_test p q.delete_index q.delete_label → d ≡ pair_test p q
     unfolding pair_test
     test_dec f n d g = g ∙ rw (sym e ∙ ap decision_means f, ne_eqb q.delete_index none n)
 
@@ -105,6 +103,14 @@ module _ {E : Type 0} (p : PointStore E) where
         ∙ sym (ap (λ (b : Bool). cond b go (dec_test r q.delete_index q.delete_label)) (ne_eqb q.delete_index none n))
         ∙ parts.1
 
+  -- so both calls may be made
+  module _ (i l j k : ℕ) (f : (well_formed p ≡ true) × (pair_decided p (pair_of i l j k) ≡ go)) where
+    pub pair_inc_ready : (well_formed p ≡ true) × (inc_test p i l ≡ go)
+    pair_inc_ready = (f.0, pair_inc (pair_of i l j k) f.1)
+
+    pub pair_dec_ready : (x : PointStore E) → x ≡ incremented p i l → (j ≡ none → ⊥) → (well_formed x ≡ true) × (dec_test x j k ≡ go)
+    pair_dec_ready x e n = (pair_inc_keeps (pair_of i l j k) f.1 f.0 x e, pair_dec (pair_of i l j k) f.1 n x e)
+
   module _ (q : Pairing) where
     pub pair_alone : q.delete_index ≡ none → (x : PointStore E) → x ≡ incremented p q.insert_index q.insert_label → x ≡ pair_done p q
     unfolding pair_done
@@ -125,21 +131,24 @@ module _ {E : Type 0} (p : PointStore E) where
     skipped n = sym (ap (λ (b : Bool). cond b (outcome done p) (carried_out (pair_decided p q) p (outcome done (pair_done p q)))) (eq-eqb q.insert_index none n))
 
     -- the decision of the test, carried out
-    module _ (n : q.insert_index ≡ none → ⊥) (d : Decision) (e : decision_means d ≡ pair_test (point_store p.header (counts_alone p.memory.reference_count p.memory.label_count)) q) where
+    module _ (n : q.insert_index ≡ none → ⊥) (d : Result Unit Refusal) (e : decision_means d ≡ pair_test (point_store p.header (counts_alone p.memory.reference_count p.memory.label_count)) q) where
       decided : (x : Decided) → decision_means d ≡ x → pair_decided p q ≡ x
       decided x f = sym (pair_test_lem q) ∙ sym (test_alone q) ∙ sym e ∙ f
 
-      pub pair_goes : d ≡ Go → pair_decided p q ≡ go
+      pub pair_goes : d ≡ Ok tt → pair_decided p q ≡ go
       pair_goes f = decided go (ap decision_means f)
 
-      pub pair_went : d ≡ Go → (x : PointStore E) → x ≡ pair_done p q → outcome done x ≡ pair_spec p q
+      pub pair_allowed : well_formed p ≡ true → d ≡ Ok tt → (well_formed p ≡ true) × (pair_decided p q ≡ go)
+      pair_allowed f g = (f, pair_goes g)
+
+      pub pair_went : d ≡ Ok tt → (x : PointStore E) → x ≡ pair_done p q → outcome done x ≡ pair_spec p q
       unfolding pair_spec
       pair_went f x g =
           ap (λ (y : PointStore E). outcome done y) g
           ∙ sym (ap (λ (b : Bool). cond b (outcome done p) (outcome done (pair_done p q))) (ne_eqb q.insert_index none n))
           ∙ sym (ap (λ (x : Decided). cond (eqb q.insert_index none) (outcome done p) (carried_out x p (outcome done (pair_done p q)))) (pair_goes f))
 
-      pub pair_refused : (r : Refusal) → d ≡ Refuse r → outcome (refused (number r)) p ≡ pair_spec p q
+      pub pair_refused : (r : Refusal) → d ≡ Err r → outcome (refused (number r)) p ≡ pair_spec p q
       unfolding pair_spec
       pair_refused r f =
           sym (ap (λ (b : Bool). cond b (outcome done p) (outcome (refused (number r)) p)) (ne_eqb q.insert_index none n))

@@ -1,7 +1,8 @@
--- The pairs of an adjust as plain numbers, and what one pair comes to.
+-- The pairs of an adjust, as structs and as plain numbers, and what one pair comes to.
 use Rattle.std.specs.Prelude.{ℕ, cond, List, [], ◌∷◌, get_or, replicate, eqb}
 use Rattle.interval_store_manager.specs.Calls.{Decided, go}
 use Rattle.labels.specs.Decisions.{none}
+use Rattle.store_definitions.specs.declared.Pair.{Pair}
 use Rattle.store_definitions.specs.Memory.{Memory, PointStore}
 use Rattle.store_definitions.specs.Answers.{done, Outcome, outcome}
 use Rattle.store_definitions.specs.Decisions.{and_then, carried_out}
@@ -10,7 +11,15 @@ use Rattle.store_definitions.specs.Counting.{Pairing, inc_test, dec_test, pair_d
 abbrev pub pair_of : ℕ → ℕ → ℕ → ℕ → Pairing
 pair_of i l j k = record { insert_index = i; insert_label = l; delete_index = j; delete_label = k }
 
--- four numbers, as they are lent
+-- of a pair as it is lent
+abbrev pub pairing_of : Pair → Pairing
+pairing_of p = pair_of p.insert.index.0 p.insert.label.0 p.delete.index.0 p.delete.label.0
+
+unfoldable pub pairings_of : List Pair → List Pairing
+pairings_of [] = []
+pairings_of (p ∷ ps) = pairing_of p ∷ pairings_of ps
+
+-- as four plain numbers
 abbrev pub pairing : List ℕ → Pairing
 pairing r = pair_of (get_or r 0 0) (get_or r 1 0) (get_or r 2 0) (get_or r 3 0)
 

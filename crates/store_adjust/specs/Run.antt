@@ -2,17 +2,18 @@
 use Rattle.std.specs.Prelude.{ℕ, suc, ◌+◌, ◌≤◌, ◌<◌, Bool, refl, length, get_or, drop, eqb}
 use Rattle.std.proofs.Common.{zero-le, add-one, add-one-le, arith, ◌∙◌, drop_of_length-le, drop-cons}
 use Rattle.std.proofs.Math.Bool.{true, false, cond}
-use mathlib.Core.List.{List, [], ◌∷◌}
+use mathlib.Core.List.{List, ◌∷◌}
 use Rattle.std.proofs.Math.Path.{◌≡◌, sym, ap, ap₂}
 use Rattle.interval_store_manager.specs.Calls.{Decided, go, refuse}
 use Rattle.labels.specs.Decisions.{none}
+use Rattle.store_definitions.specs.declared.Pair.{Pair}
 use Rattle.store_definitions.specs.Memory.{Memory, PointStore}
 use Rattle.store_definitions.specs.Answers.{done, refused, refused_after, Outcome, outcome}
 use Rattle.store_definitions.specs.Decisions.{carried_out}
 use Rattle.store_definitions.specs.Counting.{Pairing, pair_decided, pair_done, unless_refused, adjust_from, adjust_spec}
 use Rattle.store_definitions.specs.WellFormed.{well_formed}
 use Rattle.store_counts.specs.ReadingLaws.{well}
-use Rattle.store_adjust.specs.Pairs.{pairing, pairings, pair_spec}
+use Rattle.store_adjust.specs.Pairs.{pairing_of, pairings_of, pair_spec}
 use Rattle.store_adjust.specs.PairLaws.{pair_keeps}
 
 module _ {E : Type 0} (p : PointStore E) (q : Pairing) (qs : List Pairing) (n : ℕ) (o : Outcome E) (e : o ≡ pair_spec p q) where
@@ -42,6 +43,13 @@ module _ {E : Type 0} (p : PointStore E) (q : Pairing) (qs : List Pairing) (n : 
           let x : refused j ≡ refused k = sym (ap (λ (x : Outcome E). x.answer) f) ∙ a in
           let z : j ≡ k = cc in
           ap₂ (λ (y : ℕ) (x : Outcome E). outcome (refused_after y n) x.after) z (sym f)
+
+-- what a list gives where it has no pair
+abbrev pub no_pair : Pair
+no_pair = record { insert = record { index = record { 0 = 0 }; label = record { 0 = 0 } }; delete = record { index = record { 0 = 0 }; label = record { 0 = 0 } } }
+
+abbrev pub pair_at : List Pair → ℕ → Pair
+pair_at ps i = get_or ps i no_pair
 
 -- the tables are as long as those
 pub record Same {E : Type 0} (m k : Memory E) : Type 0 where
@@ -76,37 +84,37 @@ same_trans l m k f g =
     }
 
 -- where the loop stands: the pairs from i on, from here, come to what all of them come to from the start
-pub record State {E : Type 0} (rows : List (List ℕ)) (p₀ p : PointStore E) (i : ℕ) : Type 0 where
-  pub bound : i ≤ length rows
+pub record State {E : Type 0} (pairs : List Pair) (p₀ p : PointStore E) (i : ℕ) : Type 0 where
+  pub bound : i ≤ length pairs
   pub same : Same p.memory p₀.memory
   pub formed : well_formed p ≡ true
-  pub run : adjust_from i (pairings (drop i rows)) p ≡ adjust_spec p₀ (pairings rows)
+  pub run : adjust_from i (pairings_of (drop i pairs)) p ≡ adjust_spec p₀ (pairings_of pairs)
 
 pub spec_well : {E : Type 0} (p : PointStore E) (qs : List Pairing) → well_formed p ≡ true → adjust_from 0 qs p ≡ adjust_spec p qs
 unfolding adjust_spec
 spec_well p qs f = rw (well p f)
 
-pub start : {E : Type 0} (rows : List (List ℕ)) (p : PointStore E) → well_formed p ≡ true → State rows p p 0
-start rows p f = record { bound = zero-le; same = same_refl p.memory; formed = f; run = spec_well p (pairings rows) f }
+pub start : {E : Type 0} (pairs : List Pair) (p : PointStore E) → well_formed p ≡ true → State pairs p p 0
+start pairs p f = record { bound = zero-le; same = same_refl p.memory; formed = f; run = spec_well p (pairings_of pairs) f }
 
-module _ {E : Type 0} (rows : List (List ℕ)) (p₀ p : PointStore E) (i : ℕ) (f : State rows p₀ p i) where
-  module _ (h : i < length rows) (o : Outcome E) (e : o ≡ pair_spec p (pairing (get_or rows i []))) where
-    unrolled : adjust_from i (pairing (get_or rows i []) ∷ pairings (drop (suc i) rows)) p ≡ adjust_spec p₀ (pairings rows)
-    unfolding pairings
-    unrolled = sym (ap (λ (rs : List (List ℕ)). adjust_from i (pairings rs) p) (drop-cons rows i [] h)) ∙ f.run
+module _ {E : Type 0} (pairs : List Pair) (p₀ p : PointStore E) (i : ℕ) (f : State pairs p₀ p i) where
+  module _ (h : i < length pairs) (o : Outcome E) (e : o ≡ pair_spec p (pairing_of (pair_at pairs i))) where
+    unrolled : adjust_from i (pairing_of (pair_at pairs i) ∷ pairings_of (drop (suc i) pairs)) p ≡ adjust_spec p₀ (pairings_of pairs)
+    unfolding pairings_of
+    unrolled = sym (ap (λ (rs : List Pair). adjust_from i (pairings_of rs) p) (drop-cons pairs i no_pair h)) ∙ f.run
 
-    pub stop : (k : ℕ) → o.answer ≡ refused k → outcome (refused_after k i) o.after ≡ adjust_spec p₀ (pairings rows)
-    stop k a = sym (last_pair p (pairing (get_or rows i [])) (pairings (drop (suc i) rows)) i o e k a) ∙ unrolled
+    pub stop : (k : ℕ) → o.answer ≡ refused k → outcome (refused_after k i) o.after ≡ adjust_spec p₀ (pairings_of pairs)
+    stop k a = sym (last_pair p (pairing_of (pair_at pairs i)) (pairings_of (drop (suc i) pairs)) i o e k a) ∙ unrolled
 
-    pub next : o.answer ≡ done → Same o.after.memory p.memory → State rows p₀ o.after (i + 1)
+    pub next : o.answer ≡ done → Same o.after.memory p.memory → State pairs p₀ o.after (i + 1)
     next a s =
         record {
           bound = add-one-le h;
           same = same_trans o.after.memory p.memory p₀.memory s f.same;
-          formed = ap (λ (x : Outcome E). well_formed x.after) e ∙ pair_keeps p (pairing (get_or rows i [])) f.formed;
-          run = rw (add-one i) (sym (next_pair p (pairing (get_or rows i [])) (pairings (drop (suc i) rows)) i o e a) ∙ unrolled);
+          formed = ap (λ (x : Outcome E). well_formed x.after) e ∙ pair_keeps p (pairing_of (pair_at pairs i)) f.formed;
+          run = rw (add-one i) (sym (next_pair p (pairing_of (pair_at pairs i)) (pairings_of (drop (suc i) pairs)) i o e a) ∙ unrolled);
         }
 
-  pub finish : length rows ≤ i → outcome done p ≡ adjust_spec p₀ (pairings rows)
-  unfolding adjust_from pairings
-  finish h = sym (ap (λ (rs : List (List ℕ)). adjust_from i (pairings rs) p) (drop_of_length-le rows h)) ∙ f.run
+  pub finish : length pairs ≤ i → outcome done p ≡ adjust_spec p₀ (pairings_of pairs)
+  unfolding adjust_from pairings_of
+  finish h = sym (ap (λ (rs : List Pair). adjust_from i (pairings_of rs) p) (drop_of_length-le pairs h)) ∙ f.run

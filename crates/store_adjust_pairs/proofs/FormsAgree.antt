@@ -4,8 +4,8 @@ use Rattle.std.proofs.Common.{ap}
 use Rattle.store_definitions.specs.declared.Pair.{Pair}
 use Rattle.store_definitions.specs.Memory.{PointStore}
 use Rattle.store_definitions.specs.Counting.{Pairing, adjust_spec}
-use Rattle.store_adjust.specs.Pairs.{pairings}
-use Rattle.store_adjust_pairs.specs.Records.{pairing_of, pairings_of, numbers_of}
+use Rattle.store_adjust.specs.Pairs.{pairings, pairing_of, pairings_of}
+use Rattle.store_adjust_pairs.specs.Records.{numbers_of}
 
 pub same_pairings : (ps : List Pair) → pairings (numbers_of ps) ≡ pairings_of ps
 unfolding pairings pairings_of numbers_of

@@ -1,29 +1,22 @@
--- The check as an adjust of no pair and one pair as a list of one: what the steps of the loop come to, and what a pair leaves of the
--- list that it begins.
+-- The check as an adjust of no pair and one pair as a list of one: what they come to, and what a pair leaves of the list that it begins.
 use Rattle.std.specs.Prelude.{ℕ, suc, Bool, ◌≡◌, eqb}
 use Rattle.std.proofs.Math.Bool.{true, false, cond}
-use Rattle.std.proofs.Common.{true≢false, ◌∙◌, ap₂}
+use Rattle.std.proofs.Common.{true≢false, ◌∙◌}
 use Rattle.std.proofs.lemmas.Bool.{false≢true}
 use mathlib.Core.List.{List, [], ◌∷◌}
 use Rattle.std.proofs.Math.Path.{refl, sym, ap}
 use Rattle.interval_store_manager.specs.Calls.{Decided, go, refuse}
 use Rattle.labels.specs.Decisions.{none}
-use Rattle.store_definitions.specs.declared.DoneResult.{DoneResult}
-use Rattle.store_definitions.specs.declared.Store.{Store}
-use Rattle.store_definitions.specs.Memory.{Memory, PointStore, point_store}
-use Rattle.store_definitions.specs.Answers.{Answer, done, done_means, adjusted_means, Outcome, outcome}
+use Rattle.store_definitions.specs.Memory.{PointStore}
+use Rattle.store_definitions.specs.Answers.{done, Outcome, outcome}
 use Rattle.store_definitions.specs.Decisions.{carried_out}
 use Rattle.store_definitions.specs.Counting.{Pairing, pair_decided, pair_done, unless_refused, adjust_from, adjust_spec}
 use Rattle.store_definitions.specs.WellFormed.{well_formed}
-use Rattle.store_check.specs.CheckLaws.{elementless}
-use Rattle.store_counts.specs.Elements.{refilled, refilled_outcome}
-use Rattle.store_adjust.specs.Elements.{from_refilled}
 use Rattle.store_adjust.specs.Pairs.{pair_spec}
 use Rattle.store_adjust.specs.PairLaws.{pair_keeps}
 use Rattle.store_laws.specs.IllFormedLaws.{adjust_ill}
 use Rattle.store_adjust.specs.Run.{spec_well}
-use Rattle.store_adjust_pairs.specs.declared.PairStep.{PairStep}
-use Rattle.store_adjust_pairs.specs.Steps.{accepted, checked_means, after_pairs, comes_to}
+use Rattle.store_adjust_pairs.specs.Steps.{accepted, checked_means, after_pairs}
 
 module _ {E : Type 0} (p : PointStore E) (q : Pairing) (n : ℕ) where
   abbrev one : Outcome E
@@ -71,32 +64,8 @@ module _ {E : Type 0} (p : PointStore E) (q : Pairing) (n : ℕ) where
         split false go f = absurd (true≢false f)
         split false (refuse k) f = refl
 
--- what a step holds, by its store and its answer
-abbrev Holds : PairStep → Store → Answer → Type 0
-Holds r s a =
-    (r.ok ≡ accepted (adjusted_means r.result.answer)) × ((r.result.store ≡ s) × (adjusted_means r.result.answer ≡ a))
-
-module _ (s : Store) (m : Memory ℕ) (r : PairStep) where
-  abbrev whole : PointStore ℕ
-  whole = point_store s m
-
-  checked : (b : Bool) → b ≡ well_formed whole → outcome (checked_means b) whole ≡ adjust_spec whole []
+module _ {E : Type 0} (p : PointStore E) where
+  pub checked : (b : Bool) → b ≡ well_formed p → outcome (checked_means b) p ≡ adjust_spec p []
   unfolding adjust_from
-  checked true e = spec_well whole [] (sym e)
-  checked false e = sym (adjust_ill whole (sym e) [])
-
-  pub first_comes : (b : Bool) → b ≡ well_formed whole → Holds r s (checked_means b) → comes_to r m (adjust_spec whole [])
-  first_comes b e h = (h.0, ap₂ (λ (a : Answer) (t : Store). outcome a (point_store t m)) h.1.1 h.1.0 ∙ checked b e)
-
-  -- the pair was done on tables without elements
-  module _ (n : ℕ) (q : Pairing) (d : DoneResult) (k : Memory (Unit {0})) where
-    abbrev filled : Memory ℕ
-    filled = (refilled m.store m.last_known_shingle (point_store s k)).memory
-
-    pub next_comes : outcome (done_means d.answer) (point_store d.store k) ≡ pair_spec (point_store s (elementless m)) q → Holds r d.store (after_pairs n (done_means d.answer)) → comes_to r filled (adjust_from n (q ∷ []) whole)
-    next_comes e h = (
-      h.0,
-      ap₂ (λ (a : Answer) (t : Store). outcome a (point_store t filled)) h.1.1 h.1.0
-          ∙ ap (λ (o : Outcome (Unit {0})). refilled_outcome m.store m.last_known_shingle o) (told (point_store s (elementless m)) q n _ e)
-          ∙ from_refilled m.store m.last_known_shingle n (q ∷ []) (point_store s (elementless m)),
-    )
+  checked true e = spec_well p [] (sym e)
+  checked false e = sym (adjust_ill p (sym e) [])

@@ -1,9 +1,6 @@
--- What the steps of the loop say: the answers that let the next pair be taken, and the answers of the check and of a pair as an
--- adjust gives them.
-use Rattle.std.specs.Prelude.{ℕ, Bool, true, false, ◌≡◌}
-use Rattle.store_definitions.specs.Memory.{Memory, point_store}
-use Rattle.store_definitions.specs.Answers.{Answer, kept, waiting, done, is, says, refused, refused_after, adjusted_means, Outcome, outcome}
-use Rattle.store_adjust_pairs.specs.declared.PairStep.{PairStep}
+-- The answers that let the next pair be taken, and the answers of the check and of a pair as an adjust gives them.
+use Rattle.std.specs.Prelude.{ℕ, Bool, true, false}
+use Rattle.store_definitions.specs.Answers.{Answer, kept, waiting, done, is, says, refused, refused_after}
 
 abbrev pub accepted : Answer → Bool
 accepted (kept i l laid left) = true
@@ -27,9 +24,3 @@ after_pairs before (is n) = is n
 after_pairs before (says b) = says b
 after_pairs before (refused k) = refused_after k before
 after_pairs before (refused_after k n) = refused_after k n
-
--- the step with the memory is that outcome, and its flag says whether the answer is a refusal
-abbrev pub comes_to : PairStep → Memory ℕ → Outcome ℕ → Type 0
-comes_to r m o =
-    (r.ok ≡ accepted (adjusted_means r.result.answer))
-    × (outcome (adjusted_means r.result.answer) (point_store r.result.store m) ≡ o)

@@ -1,3 +1,5 @@
+mod BoundsTests
 mod EntryLaws
 mod PlaceLaws
 mod TableLaws
+pub mod CheckedLaws

@@ -2,7 +2,7 @@
 use Prim.Native.Nat.{ℕ, ◌+◌, ◌-◌, ◌*◌, ◌<◌}
 use native.Mathlib.Omega.{arith}
 use mathlib.Core.List.{List}
-use mathlib.Core.Bool.{Bool, true, false, ◌&&◌, ◌||◌, not, beq, false≢true}
+use mathlib.Core.Bool.{Bool, true, false, ◌&&◌, ◌||◌, not, beq}
 use mathlib.Core.Path.{◌≡◌, refl, sym, ◌∙◌, ap}
 use lib.ListN.{get_or}
 use lib.Dec.{leb, ltb, eqb}
@@ -10,7 +10,9 @@ use borrow.Author.Tests.{eq-eqb, ne_eqb, ltb-true}
 use Rattle.terms.specs.Below.{one, both, every_below, every_at, every_and}
 use Rattle.terms.specs.Entries.{any_default}
 use Rattle.interval_store_manager.specs.Intervals.{is_free, free_number}
+use Rattle.std.specs.Prelude.{Option, Some, None}
 use Rattle.interval_store_manager.specs.Marks.{Marks, Marked}
+use Rattle.interval_store_manager.specs.MarkLaws.{checked_some, checked_none}
 use Rattle.interval_store_manager.specs.WellFormed as manager
 use Rattle.labels.specs.Counted.{managed, free_uncounted}
 use Rattle.label_check.specs.LabelPass.{every_same}
@@ -107,38 +109,28 @@ module _ (s : Store) (counts location starts ends marks : List ℕ) (r : PointsR
       beq_same false false e = refl
 
   -- what the manager's check and the pass over the entries find, with the limit that the pass was given
-  module _ (ok : Bool) (number found : ℕ) (checked : Marked s.index_manager starts ends marks ok number) (q : found ≡ limit) where
-    well : ok ≡ true → manager.well_formed s.index_manager starts ends ≡ true
-    well w = sym checked.is ∙ w
+  module _ (answer : Option ℕ) (found : ℕ) (checked : Marked s.index_manager starts ends marks answer) (q : found ≡ limit) where
+    known : (number : ℕ) → answer ≡ Some number → (manager.well_formed s.index_manager starts ends ≡ true) × (number ≡ free_number n s.index_manager.last_in_use starts ends)
+    known number w = checked_some s.index_manager starts ends number (sym checked.is ∙ w)
 
     entries : (b : Bool) → entries_well n found marks counts location ≡ b → entries_well n limit marks counts location ≡ b
     entries b e = ap (λ (k : ℕ). entries_well n k marks counts location) (sym q) ∙ e
 
-    pub all_or_live : ok ≡ true → entries_well n found marks counts location ≡ true → counts_live n counts + number ≡ n
-    all_or_live w e =
-        omega (arith, table_live (checked.marked w) (entries true e), checked.free_is w)
+    pub all_or_live : (number : ℕ) → answer ≡ Some number → entries_well n found marks counts location ≡ true → counts_live n counts + number ≡ n
+    all_or_live number w e =
+        omega (arith, table_live (checked.marked (known number w).0) (entries true e), (known number w).1)
 
-    pub entries_pass : ok ≡ true → entries_well n found marks counts location ≡ true → TableFound s counts location starts ends true (n - number) found
-    entries_pass w e =
+    pub entries_decide : {b : Bool} (number : ℕ) → answer ≡ Some number → entries_well n found marks counts location ≡ b → b ≡ table_test s counts location starts ends
+    entries_decide {b} number w e = let k = known number w in sym (entries b e) ∙ table_is k.0 (checked.marked k.0)
+
+    pub entries_pass : (number : ℕ) → answer ≡ Some number → entries_well n found marks counts location ≡ true → TableFound s counts location (n - number) found
+    entries_pass number w e =
         let b = in_bounds s.dimensions s.shingle_size s.capacity r.bounds in
         record {
-          is = sym (entries true e) ∙ table_is (well w) (checked.marked w);
-          live_is = λ t. omega (arith, all_or_live w e);
-          limit_most = λ t. rw q (limit_most base s.dimensions free b.dims_least r.free_most);
-          places_below = λ t. rw q (table_below (entries true e));
+          live_is = omega (arith, all_or_live number w e);
+          limit_most = rw q (limit_most base s.dimensions free b.dims_least r.free_most);
+          places_below = rw q (table_below (entries true e));
         }
 
-    not_found : false ≡ table_test s counts location starts ends → TableFound s counts location starts ends false 0 0
-    not_found e =
-        record {
-          is = e;
-          live_is = λ t. absurd (false≢true t);
-          limit_most = λ t. absurd (false≢true t);
-          places_below = λ t. absurd (false≢true t);
-        }
-
-    pub entries_fail : ok ≡ true → entries_well n found marks counts location ≡ false → TableFound s counts location starts ends false 0 0
-    entries_fail w e = not_found (sym (entries false e) ∙ table_is (well w) (checked.marked w))
-
-    pub manager_fails : ok ≡ false → TableFound s counts location starts ends false 0 0
-    manager_fails w = not_found (table_fails (sym checked.is ∙ w))
+    pub manager_fails : answer ≡ None → false ≡ table_test s counts location starts ends
+    manager_fails w = table_fails (checked_none s.index_manager starts ends (sym checked.is ∙ w))

@@ -3,3 +3,4 @@ pub mod Figures
 pub mod PointsTest
 pub mod Tables
 pub mod CheckLaws
+pub mod Checked

@@ -1,6 +1,7 @@
 -- The lent tables as the contracts see them. Of the rows' elements only the lengths are known: they stand as lists of units.
 use Rattle.std.specs.Prelude.{ℕ, List, replicate}
 use denote.Triple.Both.{Both}
+use Rattle.store_definitions.specs.declared.tables.Tables.{Tables}
 use Rattle.store_definitions.specs.Memory.{Memory}
 
 abbrev pub Ref : Type 0
@@ -28,6 +29,13 @@ tables floats window counts location starts ends labels slots label_counts label
       attribute_starts = slot_starts;
       attribute_ends = slot_ends;
     }
+
+-- as a call that reads gets them
+abbrev pub tables_lent : (floats window : ℕ) → Tables → Memory (Unit {0})
+tables_lent floats window t =
+    tables floats window t.reference_count.now t.location.now t.index_starts.now t.index_ends.now t.label_tables.labels.now
+    t.label_tables.label_attributes.now t.label_tables.label_count.now t.label_tables.label_starts.now t.label_tables.label_ends.now
+    t.label_tables.attributes.now t.label_tables.attribute_count.now t.label_tables.attribute_starts.now t.label_tables.attribute_ends.now
 
 -- as a call began
 abbrev pub tables_at_entry : (floats window : ℕ) → Slice → Slice → Slice → Slice → Slice → Slice → Slice → Slice → Slice → Slice → Slice → Slice → Slice → Memory (Unit {0})

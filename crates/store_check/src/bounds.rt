@@ -8,25 +8,11 @@ use store_definitions::Store;
 pub fn bounds_hold(dimensions: usize, shingle_size: usize, capacity: usize) -> bool
     ensures { result ≡ bounds_hold dimensions shingle_size capacity }
 {
-    if dimensions < 1 {
-        return false;
+    let large_enough = (1 <= dimensions) & (1 <= shingle_size) & (1 <= capacity);
+    if large_enough & (dimensions <= 64) & (capacity <= 1024) {
+        return (dimensions % shingle_size == 0) & (capacity * dimensions <= 16384);
     }
-    if 64 < dimensions {
-        return false;
-    }
-    if shingle_size < 1 {
-        return false;
-    }
-    if dimensions % shingle_size != 0 {
-        return false;
-    }
-    if capacity < 1 {
-        return false;
-    }
-    if 1024 < capacity {
-        return false;
-    }
-    capacity * dimensions <= 16384
+    false
 }
 
 // Of a store whose bounds hold.
@@ -36,14 +22,6 @@ pub fn free_start_well(s: Store) -> bool
 {
     let free = s.start_free_region;
     let base = s.dimensions / s.shingle_size;
-    if free % base != 0 {
-        return false;
-    }
-    if free == 0 {
-        return free <= s.store_length;
-    }
-    if free < s.dimensions {
-        return false;
-    }
-    free <= s.store_length
+    let started = (free == 0) | (s.dimensions <= free);
+    (free % base == 0) & (started & (free <= s.store_length))
 }

@@ -2,11 +2,10 @@
 // price of every call. Of the floats it sees how many are lent, and nothing else.
 #![tactic(auto)]
 
-ghost use Rattle.std.specs.Prelude.{true, ◌≡◌};
+ghost use Rattle.std.specs.Prelude.{◌≡◌};
 ghost use Rattle.store_definitions.specs.Memory.{point_store};
-ghost use Rattle.store_definitions.specs.WellFormed.{well_formed};
-ghost use Rattle.store_check.specs.Figures.{FiguresOf};
-ghost use Rattle.store_check.specs.Tables.{tables};
+ghost use Rattle.store_check.specs.Checked.{checked};
+ghost use Rattle.store_check.specs.Tables.{tables_lent};
 
 mod bounds;
 mod points;
@@ -17,8 +16,8 @@ pub use bounds::{bounds_hold, free_start_well};
 use label_check::labels_well_formed;
 use labels::{LabelManagers, LabelsFree};
 pub use points::places_distinct;
-pub use record::{Lengths, numbers_well, record_well};
-use store_definitions::Store;
+pub use record::{Lengths, lengths_of, record_well};
+use store_definitions::{Store, Tables};
 use table::points_well;
 pub use table::table_well;
 
@@ -29,84 +28,38 @@ pub struct Figures {
     pub free: LabelsFree,
 }
 
-// What the check finds: whether the store is well-formed, and then what was counted.
-#[derive(Clone, Copy)]
-pub struct StoreChecked {
-    pub ok: bool,
-    pub figures: Figures,
-}
-
-pub fn check(
-    s: Store,
-    floats: usize,
-    window: usize,
-    reference_count: &[u16],
-    location: &[u16],
-    index_starts: &[u16],
-    index_ends: &[u16],
-    labels: &[u8],
-    label_attributes: &[u16],
-    label_count: &[u16],
-    label_starts: &[u16],
-    label_ends: &[u16],
-    attributes: &[u8],
-    attribute_count: &[u32],
-    attribute_starts: &[u16],
-    attribute_ends: &[u16],
-) -> StoreChecked
-    ensures { (result.ok ≡ well_formed (point_store s (tables floats window reference_count.now location.now index_starts.now index_ends.now labels.now label_attributes.now label_count.now label_starts.now label_ends.now attributes.now attribute_count.now attribute_starts.now attribute_ends.now))) × ((result.ok ≡ true → FiguresOf result.figures (point_store s (tables floats window reference_count.now location.now index_starts.now index_ends.now labels.now label_attributes.now label_count.now label_starts.now label_ends.now attributes.now attribute_count.now attribute_starts.now attribute_ends.now)))) }
+// What is counted of a store that is well-formed.
+pub fn check(s: Store, floats: usize, window: usize, tables: Tables) -> Option<Figures>
+    ensures { result ≡ checked (point_store s (tables_lent floats window tables.entry)) }
 {
-    let lent = Lengths {
+    let lent = lengths_of(
         floats,
         window,
-        counts: reference_count.len(),
-        places: location.len(),
-        starts: index_starts.len(),
-        ends: index_ends.len(),
+        tables.reference_count,
+        tables.location,
+        tables.index_starts,
+        tables.index_ends,
+    );
+    if !record_well(s, lent) {
+        return None;
+    }
+    let live = points_well(
+        s,
+        tables.reference_count,
+        tables.location,
+        tables.index_starts,
+        tables.index_ends,
+    )?;
+    let managers = LabelManagers {
+        label_manager: s.label_manager,
+        attribute_manager: s.attribute_manager,
     };
-    if record_well(s, lent) {
-        let points = points_well(s, reference_count, location, index_starts, index_ends);
-        let well = points.ok;
-        if well {
-            let label_manager = s.label_manager;
-            let attribute_manager = s.attribute_manager;
-            let managers = LabelManagers {
-                label_manager,
-                attribute_manager,
-            };
-            let half = labels_well_formed(
-                s.store_labels,
-                &s.classes,
-                s.capacity,
-                managers,
-                labels,
-                label_attributes,
-                label_count,
-                label_starts,
-                label_ends,
-                attributes,
-                attribute_count,
-                attribute_starts,
-                attribute_ends,
-            );
-            let free = half.free;
-            return StoreChecked {
-                ok: half.ok,
-                figures: Figures {
-                    live: points.live,
-                    free,
-                },
-            };
-        }
-    }
-    StoreChecked {
-        ok: false,
-        figures: Figures {
-            live: 0,
-            free: LabelsFree {
-                labels: 0,
-                slots: 0,
-            },
-        },
-    }
+    let free = labels_well_formed(
+        s.store_labels,
+        &s.classes,
+        s.capacity,
+        managers,
+        tables.label_tables,
+    )?;
+    Some(Figures { live, free })
 }

@@ -39,11 +39,8 @@ pub fn entries_well(
     ensures { result ≡ entries_well n limit marks.now reference_count.now location.now }
 {
     let mut ok = true;
-    let mut i = 0;
-    while i < n {
-        let well = entry_well(limit, marks[i], reference_count[i], location[i]);
-        ok = ok & well;
-        i += 1;
+    for i in 0..n {
+        ok &= entry_well(limit, marks[i], reference_count[i], location[i]);
     }
     ok
 }
@@ -68,45 +65,19 @@ fn mark_places(n: usize, location: &[u16], marks: &mut [bool]) -> bool
     ensures { result ≡ places_distinct n location.now }
 {
     let mut met = false;
-    let mut i = 0;
-    while i < n {
-        let again = mark_place(location[i], marks);
-        met = met | again;
-        i += 1;
+    for i in 0..n {
+        met |= mark_place(location[i], marks);
     }
     !met
 }
 
-fn distinct_256(n: usize, location: &[u16]) -> bool
-    requires { (n ≤ length location.now) × PlacesBelow 256 n location.now }
+// With a table of N marks.
+fn distinct_in<const N: usize>(n: usize, location: &[u16]) -> bool
+    requires { (N ≤ 16384) × ((n ≤ length location.now) × PlacesBelow N n location.now) }
     ensures { result ≡ places_distinct n location.now }
 {
-    let mut marks = [false; 256];
-    mark_places(n, location, &mut marks[..])
-}
-
-fn distinct_1024(n: usize, location: &[u16]) -> bool
-    requires { (n ≤ length location.now) × PlacesBelow 1024 n location.now }
-    ensures { result ≡ places_distinct n location.now }
-{
-    let mut marks = [false; 1024];
-    mark_places(n, location, &mut marks[..])
-}
-
-fn distinct_4096(n: usize, location: &[u16]) -> bool
-    requires { (n ≤ length location.now) × PlacesBelow 4096 n location.now }
-    ensures { result ≡ places_distinct n location.now }
-{
-    let mut marks = [false; 4096];
-    mark_places(n, location, &mut marks[..])
-}
-
-fn distinct_16384(n: usize, location: &[u16]) -> bool
-    requires { (n ≤ length location.now) × PlacesBelow 16384 n location.now }
-    ensures { result ≡ places_distinct n location.now }
-{
-    let mut marks = [false; 16384];
-    mark_places(n, location, &mut marks[..])
+    let mut marks = [false; N];
+    mark_places(n, location, &mut marks)
 }
 
 // Whether the live places are distinct, with a table of marks no larger than the places ask for.
@@ -115,13 +86,13 @@ pub fn places_distinct(n: usize, places: usize, location: &[u16]) -> bool
     ensures { result ≡ places_distinct n location.now }
 {
     if places <= 256 {
-        return distinct_256(n, location);
+        return distinct_in::<256>(n, location);
     }
     if places <= 1024 {
-        return distinct_1024(n, location);
+        return distinct_in::<1024>(n, location);
     }
     if places <= 4096 {
-        return distinct_4096(n, location);
+        return distinct_in::<4096>(n, location);
     }
-    distinct_16384(n, location)
+    distinct_in::<16384>(n, location)
 }

@@ -1,25 +1,19 @@
 // The points' table: its manager and its entries, in one pass each, and then its places.
-ghost use Rattle.std.specs.Prelude.{true, ◌≡◌, ◌≤◌, length};
+ghost use Rattle.std.specs.Bool.{then_some};
+ghost use Rattle.std.specs.Prelude.{is_some, IfSome, ◌≡◌, ◌≤◌, length};
 ghost use Rattle.interval_store_manager.specs.Marks.{Unmarked};
 ghost use Rattle.store_check.specs.Entries.{counts_live};
-ghost use Rattle.store_check.specs.PointsTest.{points_test, PointsReady, TableFound};
+ghost use Rattle.store_check.specs.PointsTest.{points_test, table_test, PointsReady, TableFound};
 ghost use Rattle.store_definitions.specs.Parts.{table_length};
 
 use crate::points::{entries_well, place_limit, places_distinct};
 use interval_store_manager::mark_free;
 use store_definitions::Store;
 
-// What the pass finds: whether the points' half is well-formed, and then how many points are live.
-#[derive(Clone, Copy)]
-pub struct PointsChecked {
-    pub ok: bool,
-    pub live: usize,
-}
-
-// The same before two places are held against each other, with a limit that every live place is below.
+// What the pass finds of a table that is well-formed, before two places are held against each other: how many points are live, and a
+// limit that every live place is below.
 #[derive(Clone, Copy)]
 pub struct TableChecked {
-    pub ok: bool,
     pub live: usize,
     pub limit: usize,
 }
@@ -32,72 +26,43 @@ fn marked_well(
     index_starts: &[u16],
     index_ends: &[u16],
     marks: &mut [u8],
-) -> TableChecked
+) -> Option<TableChecked>
     requires { PointsReady s reference_count.now location.now × ((table_length s ≤ length marks.old) × Unmarked marks.old) }
-    ensures { TableFound s reference_count.now location.now index_starts.now index_ends.now result.ok result.live result.limit }
+    ensures { (is_some result ≡ table_test s reference_count.now location.now index_starts.now index_ends.now) × IfSome result (λ table. TableFound s reference_count.now location.now table.live table.limit) }
 {
     let manager = s.index_manager;
     let n = manager.capacity;
     let base = s.dimensions / s.shingle_size;
     let limit = place_limit(base, s.dimensions, s.start_free_region);
-    let checked = mark_free(manager, index_starts, index_ends, marks);
-    let managed = checked.ok;
-    let free = checked.free;
-    if managed {
+    if let Some(free) = mark_free(manager, index_starts, index_ends, marks) {
         if entries_well(n, limit, marks, reference_count, location) {
-            return TableChecked {
-                ok: true,
+            return Some(TableChecked {
                 live: n - free,
                 limit: limit as usize,
-            };
+            });
         }
     }
-    TableChecked {
-        ok: false,
-        live: 0,
-        limit: 0,
-    }
+    None
 }
 
-fn well_in_64(
+fn well_in<const N: usize>(
     s: Store,
     reference_count: &[u16],
     location: &[u16],
     index_starts: &[u16],
     index_ends: &[u16],
-) -> TableChecked
-    requires { PointsReady s reference_count.now location.now × (table_length s ≤ 64) }
-    ensures { TableFound s reference_count.now location.now index_starts.now index_ends.now result.ok result.live result.limit }
+) -> Option<TableChecked>
+    requires { (N ≤ 1024) × (PointsReady s reference_count.now location.now × (table_length s ≤ N)) }
+    ensures { (is_some result ≡ table_test s reference_count.now location.now index_starts.now index_ends.now) × IfSome result (λ table. TableFound s reference_count.now location.now table.live table.limit) }
 {
-    let mut marks = [0u8; 64];
+    let mut marks = [0u8; N];
     marked_well(
         s,
         reference_count,
         location,
         index_starts,
         index_ends,
-        &mut marks[..],
-    )
-}
-
-fn well_in_1024(
-    s: Store,
-    reference_count: &[u16],
-    location: &[u16],
-    index_starts: &[u16],
-    index_ends: &[u16],
-) -> TableChecked
-    requires { PointsReady s reference_count.now location.now }
-    ensures { TableFound s reference_count.now location.now index_starts.now index_ends.now result.ok result.live result.limit }
-{
-    let mut marks = [0u8; 1024];
-    marked_well(
-        s,
-        reference_count,
-        location,
-        index_starts,
-        index_ends,
-        &mut marks[..],
+        &mut marks,
     )
 }
 
@@ -108,34 +73,27 @@ pub fn table_well(
     location: &[u16],
     index_starts: &[u16],
     index_ends: &[u16],
-) -> TableChecked
+) -> Option<TableChecked>
     requires { PointsReady s reference_count.now location.now }
-    ensures { TableFound s reference_count.now location.now index_starts.now index_ends.now result.ok result.live result.limit }
+    ensures { (is_some result ≡ table_test s reference_count.now location.now index_starts.now index_ends.now) × IfSome result (λ table. TableFound s reference_count.now location.now table.live table.limit) }
 {
     if s.index_manager.capacity <= 64 {
-        return well_in_64(s, reference_count, location, index_starts, index_ends);
+        return well_in::<64>(s, reference_count, location, index_starts, index_ends);
     }
-    well_in_1024(s, reference_count, location, index_starts, index_ends)
+    well_in::<1024>(s, reference_count, location, index_starts, index_ends)
 }
 
+// How many points are live, where their half is well-formed.
 pub fn points_well(
     s: Store,
     reference_count: &[u16],
     location: &[u16],
     index_starts: &[u16],
     index_ends: &[u16],
-) -> PointsChecked
+) -> Option<usize>
     requires { PointsReady s reference_count.now location.now }
-    ensures { (result.ok ≡ points_test s reference_count.now location.now index_starts.now index_ends.now) × ((result.ok ≡ true → result.live ≡ counts_live (table_length s) reference_count.now)) }
+    ensures { result ≡ then_some (points_test s reference_count.now location.now index_starts.now index_ends.now) (counts_live (table_length s) reference_count.now) }
 {
-    let table = table_well(s, reference_count, location, index_starts, index_ends);
-    let well = table.ok;
-    if well {
-        let ok = places_distinct(s.index_manager.capacity, table.limit, location);
-        return PointsChecked {
-            ok,
-            live: table.live,
-        };
-    }
-    PointsChecked { ok: false, live: 0 }
+    let table = table_well(s, reference_count, location, index_starts, index_ends)?;
+    places_distinct(s.index_manager.capacity, table.limit, location).then_some(table.live)
 }

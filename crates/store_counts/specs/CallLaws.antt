@@ -1,21 +1,22 @@
 -- What an accepted inc or dec may rely on, and what its parts come to.
-use Rattle.std.specs.Prelude.{ℕ, ◌+◌, ◌≤◌, ◌<◌, Bool, true, false, ◌≡◌, length, get_or, set, eqb}
+use Rattle.std.specs.Prelude.{ℕ, ◌+◌, ◌≤◌, ◌<◌, Bool, true, false, ◌≡◌, length, get_or, set, eqb, Option, Result, Ok, Err}
 use Rattle.std.proofs.Common.{arith, ◌∙◌, eq-eqb, ne_eqb}
 use Rattle.std.proofs.Math.Bool.{cond}
 use mathlib.Core.List.{List}
 use Rattle.std.proofs.Math.Path.{sym, ap}
 use Rattle.std.proofs.lemmas.Bool.{eqb-false}
+use Rattle.std.specs.Option.{ok_or}
 use Rattle.terms.specs.declared.Refusal.{Refusal}
+use Rattle.terms.specs.declared.Refusal.TheVariants.{IllFormed}
 use Rattle.terms.specs.Refusals.{number}
-use Rattle.interval_store_manager.specs.declared.Decision.{Decision}
-use Rattle.interval_store_manager.specs.declared.Decision.TheVariants.{Go, Refuse}
 use Rattle.interval_store_manager.specs.Calls.{go, decision_means}
 use Rattle.labels.specs.Counted.{Counted, counted, raised, lowered}
 use Rattle.labels.specs.Decisions.{inc_decided, dec_decided}
-use Rattle.labels.specs.Forms.{InUse}
-use Rattle.labels.specs.Labels.{Labels, labels_well, label_raised, label_lowered}
+use Rattle.labels.specs.Forms.{InUse, LiveLabel}
+use Rattle.labels.specs.Labels.{Labels, label_raised, label_lowered}
 use Rattle.labels.specs.Sound.{sound_make as labels_sound_make}
-use Rattle.store_definitions.specs.Memory.{PointStore, point_store}
+use Rattle.store_definitions.specs.declared.Store.{Store}
+use Rattle.store_definitions.specs.Memory.{Memory, PointStore, point_store}
 use Rattle.store_definitions.specs.Answers.{done, refused, outcome}
 use Rattle.store_definitions.specs.Parts.{table_length, point_table, label_half, with_points, with_labels}
 use Rattle.store_definitions.specs.Decisions.{refuse_if, touch_decided}
@@ -23,15 +24,13 @@ use Rattle.store_definitions.specs.Counting.{inc_test, dec_test, incremented, pl
 use Rattle.store_definitions.specs.WellFormed.{well_formed}
 use Rattle.store_laws.specs.Sound.{sound}
 use Rattle.store_laws.specs.DecisionLaws.{both_go, not_refused, touch_go, inc_label_go, dec_label_go}
+use Rattle.store_laws.specs.IllFormedLaws.{inc_ill, dec_ill}
+use Rattle.store_check.specs.declared.Figures.{Figures}
+use Rattle.store_check.specs.CheckLaws.{elementless}
+use Rattle.store_check.specs.Checked.{checked, check_failed}
 use Rattle.store_counts.specs.Tables.{counts_alone, emptied}
 use Rattle.store_counts.specs.TestLaws.{inc_test_alone, dec_test_alone}
 use Rattle.store_counts.specs.ReadingLaws.{well}
-
--- a label whose count may fall
-pub record LabelReady (classes : List ℕ) (capacity : ℕ) (h : Labels) (l : ℕ) : Type 0 where
-  pub well : labels_well classes capacity h ≡ true
-  pub below : l < capacity
-  pub counted : 0 < get_or h.label_table.counts l 0
 
 less : (k : ℕ) → k ≤ 65535 → (k ≡ 65535 → ⊥) → k < 65535
 less k a b = omega arith
@@ -66,14 +65,14 @@ module _ {E : Type 0} (p : PointStore E) where
       pub inc_room : get_or counts i 0 < 65536 → get_or counts i 0 < 65535
       inc_room h = less (get_or counts i 0) (omega arith) (eqb-false (get_or counts i 0) 65535 (not_refused _ 7 inc_parts.1.1))
 
-      pub inc_label_ready : p.header.store_labels ≡ true → LabelReady p.header.classes p.header.capacity (label_half p) l × (get_or p.memory.label_count l 0 < 65535)
+      pub inc_label_ready : p.header.store_labels ≡ true → LiveLabel p.header.classes p.header.capacity (label_half p) l × (get_or p.memory.label_count l 0 < 65535)
       inc_label_ready on =
           let w = (sound p f).labels on in
           let u = inc_label_go p.header.capacity p.memory.label_count l (rw on at inc_parts.1.0) in (
             record {
               well = labels_sound_make p.header.classes p.header.capacity (label_half p) w;
               below = u.0.below;
-              counted = u.0.counted;
+              live = u.0.counted;
             },
             less (get_or p.memory.label_count l 0) (w.count_most l u.0.below) u.1,
           )
@@ -89,13 +88,13 @@ module _ {E : Type 0} (p : PointStore E) where
           let u = touch_go p i dec_parts.0 in
           (record { well = w.points; below = u.0; live = u.1 }, omega (arith, w.rows.places_lent, w.table_within, u.0))
 
-      pub dec_label_ready : p.header.store_labels ≡ true → LabelReady p.header.classes p.header.capacity (label_half p) l
+      pub dec_label_ready : p.header.store_labels ≡ true → LiveLabel p.header.classes p.header.capacity (label_half p) l
       dec_label_ready on =
           let u = dec_label_go p.header.capacity p.memory.label_count l (rw on at dec_parts.1) in
           record {
             well = labels_sound_make p.header.classes p.header.capacity (label_half p) ((sound p f).labels on);
             below = u.below;
-            counted = u.counted;
+            live = u.counted;
           }
 
   module _ (i l : ℕ) where
@@ -131,25 +130,39 @@ module _ {E : Type 0} (p : PointStore E) where
     alone = point_store p.header (counts_alone counts p.memory.label_count)
 
     -- the ways out of a call
-    module _ (f : well_formed p ≡ true) (d : Decision) where
-      pub inc_goes : decision_means d ≡ inc_test alone i l → d ≡ Go → inc_test p i l ≡ go
+    module _ (f : well_formed p ≡ true) (d : Result Unit Refusal) where
+      pub inc_goes : decision_means d ≡ inc_test alone i l → d ≡ Ok tt → inc_test p i l ≡ go
       inc_goes a b = sym (inc_test_alone p i l) ∙ sym a ∙ ap decision_means b
 
-      pub inc_went : decision_means d ≡ inc_test alone i l → d ≡ Go → (q : PointStore E) → q ≡ incremented p i l → outcome done q ≡ inc_spec p i l
+      pub inc_allowed : decision_means d ≡ inc_test alone i l → d ≡ Ok tt → (well_formed p ≡ true) × (inc_test p i l ≡ go)
+      inc_allowed a b = (f, inc_goes a b)
+
+      pub inc_went : decision_means d ≡ inc_test alone i l → d ≡ Ok tt → (q : PointStore E) → q ≡ incremented p i l → outcome done q ≡ inc_spec p i l
       unfolding inc_spec
       inc_went a b q e = rw (well p f, inc_goes a b) (ap (λ (x : PointStore E). outcome done x) e)
 
-      pub inc_refused : decision_means d ≡ inc_test alone i l → (r : Refusal) → d ≡ Refuse r → outcome (refused (number r)) p ≡ inc_spec p i l
+      pub inc_refused : decision_means d ≡ inc_test alone i l → (r : Refusal) → d ≡ Err r → outcome (refused (number r)) p ≡ inc_spec p i l
       unfolding inc_spec
       inc_refused a r b = rw (well p f, sym (inc_test_alone p i l) ∙ sym a ∙ ap decision_means b)
 
-      pub dec_goes : decision_means d ≡ dec_test alone i l → d ≡ Go → dec_test p i l ≡ go
+      pub dec_goes : decision_means d ≡ dec_test alone i l → d ≡ Ok tt → dec_test p i l ≡ go
       dec_goes a b = sym (dec_test_alone p i l) ∙ sym a ∙ ap decision_means b
 
-      pub dec_went : decision_means d ≡ dec_test alone i l → d ≡ Go → (q : PointStore E) → q ≡ decremented p i l → outcome done q ≡ dec_spec p i l
+      pub dec_allowed : decision_means d ≡ dec_test alone i l → d ≡ Ok tt → (well_formed p ≡ true) × (dec_test p i l ≡ go)
+      dec_allowed a b = (f, dec_goes a b)
+
+      pub dec_went : decision_means d ≡ dec_test alone i l → d ≡ Ok tt → (q : PointStore E) → q ≡ decremented p i l → outcome done q ≡ dec_spec p i l
       unfolding dec_spec
       dec_went a b q e = rw (well p f, dec_goes a b) (ap (λ (x : PointStore E). outcome done x) e)
 
-      pub dec_refused : decision_means d ≡ dec_test alone i l → (r : Refusal) → d ≡ Refuse r → outcome (refused (number r)) p ≡ dec_spec p i l
+      pub dec_refused : decision_means d ≡ dec_test alone i l → (r : Refusal) → d ≡ Err r → outcome (refused (number r)) p ≡ dec_spec p i l
       unfolding dec_spec
       dec_refused a r b = rw (well p f, sym (dec_test_alone p i l) ∙ sym a ∙ ap decision_means b)
+
+-- and after a check that fails
+module _ {E : Type 0} (s : Store) (m : Memory E) (answer : Option Figures) (a : answer ≡ checked (point_store s (elementless m))) (why : Refusal) (e : ok_or answer IllFormed ≡ Err why) (i l : ℕ) where
+  pub inc_ill_formed : outcome (refused (number why)) (point_store s m) ≡ inc_spec (point_store s m) i l
+  inc_ill_formed = let f = check_failed s m answer IllFormed a why e in rw f.1 (sym (inc_ill (point_store s m) f.0 i l))
+
+  pub dec_ill_formed : outcome (refused (number why)) (point_store s m) ≡ dec_spec (point_store s m) i l
+  dec_ill_formed = let f = check_failed s m answer IllFormed a why e in rw f.1 (sym (dec_ill (point_store s m) f.0 i l))

@@ -6,7 +6,7 @@ use Rattle.std.proofs.Common.{◌∙◌}
 use Rattle.interval_store_manager.specs.Calls.{Decided, go, refuse}
 use Rattle.store_definitions.specs.declared.Store.{Store}
 use Rattle.store_definitions.specs.Memory.{Memory, PointStore, point_store}
-use Rattle.store_definitions.specs.Answers.{done, Outcome, outcome}
+use Rattle.store_definitions.specs.Answers.{Answer, done, Outcome, outcome}
 use Rattle.store_definitions.specs.Parts.{point_table, label_half, with_points, with_labels}
 use Rattle.store_definitions.specs.Decisions.{and_then, form_decided, live, touch_decided, carried_out}
 use Rattle.store_definitions.specs.Counting.{inc_test, dec_test, incremented, place_after_dec, decremented, inc_spec, dec_spec}
@@ -96,3 +96,21 @@ module _ {F : Type 0} (s : Store) (m : Memory F) where
       ∙ ap₂ (λ (d : Decided) (q : PointStore F). carried_out d whole (outcome done q))
       (ap₂ (λ (a b : Decided). and_then a b) form_same (dec_test_same i l))
       (dec_refilled m.store m.last_known_shingle bare i l)
+
+-- so a call on the tables alone, of stores whose elements stay, is the call on the whole
+module _ {F : Type 0} (s t : Store) (m n : Memory F) (rows : n.store ≡ m.store) (window : n.last_known_shingle ≡ m.last_known_shingle) (answer : Answer) (i l : ℕ) where
+  refilled_same : outcome answer (point_store t n) ≡ outcome answer (refilled m.store m.last_known_shingle (point_store t (elementless n)))
+  refilled_same =
+      ap₂ (λ (xs ys : List F). outcome answer (refilled xs ys (point_store t (elementless n)))) rows window
+
+  pub inc_whole : outcome answer (point_store t (elementless n)) ≡ inc_spec (point_store s (elementless m)) i l → outcome answer (point_store t n) ≡ inc_spec (point_store s m) i l
+  inc_whole e =
+      refilled_same
+      ∙ ap (λ (o : Outcome (Unit {0})). refilled_outcome m.store m.last_known_shingle o) e
+      ∙ inc_same s m i l
+
+  pub dec_whole : outcome answer (point_store t (elementless n)) ≡ dec_spec (point_store s (elementless m)) i l → outcome answer (point_store t n) ≡ dec_spec (point_store s m) i l
+  dec_whole e =
+      refilled_same
+      ∙ ap (λ (o : Outcome (Unit {0})). refilled_outcome m.store m.last_known_shingle o) e
+      ∙ dec_same s m i l

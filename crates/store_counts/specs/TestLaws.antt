@@ -1,12 +1,10 @@
 -- The decisions of an inc and a dec, by the tests that lead to them.
-use Rattle.std.specs.Prelude.{ℕ, ◌≤◌, ◌<◌, Bool, true, false, List, [], ◌≡◌, get_or, ltb, eqb}
+use Rattle.std.specs.Prelude.{ℕ, ◌≤◌, ◌<◌, Bool, true, false, List, [], ◌≡◌, get_or, ltb, eqb, Result, Ok, Err}
 use Rattle.std.proofs.Math.Bool.{cond}
 use Rattle.std.proofs.Math.Path.{refl, sym, ap}
 use Rattle.std.proofs.Common.{◌∙◌, lt-ltb, le-ltb}
 use Rattle.terms.specs.declared.Refusal.{Refusal}
 use Rattle.terms.specs.Refusals.{number}
-use Rattle.interval_store_manager.specs.declared.Decision.{Decision}
-use Rattle.interval_store_manager.specs.declared.Decision.TheVariants.{Go, Refuse}
 use Rattle.interval_store_manager.specs.Calls.{Decided, go, refuse, decision_means}
 use Rattle.labels.specs.Decisions.{inc_decided, dec_decided}
 use Rattle.store_definitions.specs.declared.Store.{Store}
@@ -50,11 +48,11 @@ module _ (s : Store) (counts : List ℕ) (i : ℕ) where
     unfolding touch_decided live
     touched = ap (λ (x : Bool). cond x go (refuse 5)) (sym e)
 
-    pub inc_counted : b ≡ true → (d : Decision) → decision_means d ≡ inc_decided s.store_labels s.capacity label_counts l → d ≡ Go → (r : Decided) → r ≡ refuse_if (eqb (get_or counts i 0) 65535) 7 → r ≡ inc_test p i l
+    pub inc_counted : b ≡ true → (d : Result Unit Refusal) → decision_means d ≡ inc_decided s.store_labels s.capacity label_counts l → d ≡ Ok tt → (r : Decided) → r ≡ refuse_if (eqb (get_or counts i 0) 65535) 7 → r ≡ inc_test p i l
     unfolding inc_test
     inc_counted t d f g r h = h ∙ rw (touched, t, sym f ∙ ap decision_means g)
 
-    pub inc_label_refused : b ≡ true → (d : Decision) → decision_means d ≡ inc_decided s.store_labels s.capacity label_counts l → (r : Refusal) → d ≡ Refuse r → refuse (number r) ≡ inc_test p i l
+    pub inc_label_refused : b ≡ true → (d : Result Unit Refusal) → decision_means d ≡ inc_decided s.store_labels s.capacity label_counts l → (r : Refusal) → d ≡ Err r → refuse (number r) ≡ inc_test p i l
     unfolding inc_test
     inc_label_refused t d f r g = rw (touched, t, sym f ∙ ap decision_means g)
 

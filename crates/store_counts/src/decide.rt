@@ -6,73 +6,66 @@ ghost use Rattle.store_definitions.specs.Decisions.{live, refuse_if};
 ghost use Rattle.store_definitions.specs.Memory.{point_store};
 ghost use Rattle.store_counts.specs.Tables.{counts_alone};
 
-use interval_store_manager::Decision;
 use store_definitions::Store;
 use terms::{LabelIndex, PointIndex, Refusal};
 
 // Document 01: 'inc of a point or label count at 65,535'.
+// Kept: the label's largest count stands in `labels`, in the type of its own comparison; they are two bounds of one number.
 const LARGEST_COUNT: usize = 65535;
 
 // A point's count, 0 past the end of the lent slice: as the definitions read a list.
 pub fn point_count(reference_count: &[u16], index: PointIndex) -> usize
     ensures { result ≡ get_or reference_count.now index.0 0 }
 {
-    let i = index.0;
-    if i < reference_count.len() {
-        return reference_count[i] as usize;
-    }
-    0
+    reference_count.get(index.0).copied().unwrap_or(0) as usize
 }
 
+#[tactic(auto, using(crate::specs::TestLaws::in_use_below, crate::specs::TestLaws::in_use_beyond))]
 pub fn point_in_use(s: Store, reference_count: &[u16], index: PointIndex) -> bool
     ensures { result ≡ live (point_store s (counts_alone reference_count.now [])) index.0 }
 {
-    if index.0 < s.index_manager.capacity {
-        return 0 < point_count(reference_count, index);
-    }
-    false
+    (index.0 < s.index_manager.capacity) && (0 < point_count(reference_count, index))
 }
 
+#[tactic(auto, using(crate::specs::TestLaws::inc_counted, crate::specs::TestLaws::inc_label_refused, crate::specs::TestLaws::inc_dead))]
 pub fn inc_test(
     s: Store,
     reference_count: &[u16],
     label_count: &[u16],
     index: PointIndex,
     label: LabelIndex,
-) -> Decision
+) -> Result<(), Refusal>
     ensures { decision_means result ≡ inc_test (point_store s (counts_alone reference_count.now label_count.now)) index.0 label.0 }
 {
-    if point_in_use(s, reference_count, index) {
-        let labelled = labels::inc_decision(s.store_labels, s.capacity, label_count, label);
-        return match labelled {
-            Decision::Go => room_to_count(reference_count, index),
-            Decision::Refuse(r) => Decision::Refuse(r),
-        };
+    if !point_in_use(s, reference_count, index) {
+        return Err(Refusal::PointNotInUse);
     }
-    Decision::Refuse(Refusal::PointNotInUse)
+    labels::inc_decision(s.store_labels, s.capacity, label_count, label)?;
+    room_to_count(reference_count, index)
 }
 
 // Whether a point's count may rise.
-fn room_to_count(reference_count: &[u16], index: PointIndex) -> Decision
+fn room_to_count(reference_count: &[u16], index: PointIndex) -> Result<(), Refusal>
     ensures { decision_means result ≡ refuse_if (eqb (get_or reference_count.now index.0 0) 65535) 7 }
 {
     if point_count(reference_count, index) == LARGEST_COUNT {
-        return Decision::Refuse(Refusal::CountFull);
+        return Err(Refusal::CountFull);
     }
-    Decision::Go
+    Ok(())
 }
 
+#[tactic(auto, using(crate::specs::TestLaws::dec_labelled, crate::specs::TestLaws::dec_dead))]
 pub fn dec_test(
     s: Store,
     reference_count: &[u16],
     label_count: &[u16],
     index: PointIndex,
     label: LabelIndex,
-) -> Decision
+) -> Result<(), Refusal>
     ensures { decision_means result ≡ dec_test (point_store s (counts_alone reference_count.now label_count.now)) index.0 label.0 }
 {
-    if point_in_use(s, reference_count, index) {
-        return labels::dec_decision(s.store_labels, s.capacity, label_count, label);
+    if !point_in_use(s, reference_count, index) {
+        return Err(Refusal::PointNotInUse);
     }
-    Decision::Refuse(Refusal::PointNotInUse)
+    labels::dec_decision(s.store_labels, s.capacity, label_count, label)
 }

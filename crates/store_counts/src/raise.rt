@@ -9,11 +9,10 @@ ghost use Rattle.store_definitions.specs.WellFormed.{well_formed};
 ghost use Rattle.store_check.specs.Tables.{tables};
 
 use crate::decide::inc_test;
-use interval_store_manager::Decision;
-use labels::{LabelManagers, inc_label};
+use labels::{LabelManagers, LabelRaising, LabelTables, inc_label};
 use store_check::check;
-use store_definitions::{Done, DoneResult, Store};
-use terms::{LabelIndex, PointIndex, Refusal};
+use store_definitions::{Store, Tables};
+use terms::{FloatBits, LabelIndex, PointIndex, Refusal};
 
 // One count more, for callers that have checked the store and the call. Of the elements only the lengths are known.
 pub fn inc_accepted(
@@ -42,16 +41,11 @@ pub fn inc_accepted(
     let i = index.0;
     reference_count[i] += 1;
     if s.store_labels {
-        let label_manager = s.label_manager;
-        let attribute_manager = s.attribute_manager;
         let managers = LabelManagers {
-            label_manager,
-            attribute_manager,
+            label_manager: s.label_manager,
+            attribute_manager: s.attribute_manager,
         };
-        inc_label(
-            &s.classes,
-            s.capacity,
-            managers,
+        let mut tables = LabelRaising {
             labels,
             label_attributes,
             label_count,
@@ -61,12 +55,13 @@ pub fn inc_accepted(
             attribute_count,
             attribute_starts,
             attribute_ends,
-            label,
-        );
+        };
+        inc_label(&s.classes, s.capacity, managers, &mut tables, label);
     }
 }
 
 // The same for callers that have checked the store.
+#[tactic(auto, using(crate::specs::CallLaws::inc_allowed, crate::specs::CallLaws::inc_went, crate::specs::CallLaws::inc_refused))]
 pub fn inc_unchecked(
     s: Store,
     floats: usize,
@@ -86,25 +81,68 @@ pub fn inc_unchecked(
     attribute_ends: &[u16],
     index: PointIndex,
     label: LabelIndex,
-) -> DoneResult
+) -> Result<(), Refusal>
     requires { well_formed (point_store s (tables floats window reference_count.old location.now index_starts.now index_ends.now labels.now label_attributes.now label_count.old label_starts.now label_ends.now attributes.now attribute_count.old attribute_starts.now attribute_ends.now)) ≡ true }
-    ensures { outcome (done_means result.answer) (point_store result.store (tables floats window reference_count.new location.now index_starts.now index_ends.now labels.now label_attributes.now label_count.new label_starts.now label_ends.now attributes.now attribute_count.new attribute_starts.now attribute_ends.now)) ≡ inc_spec (point_store s (tables floats window reference_count.old location.now index_starts.now index_ends.now labels.now label_attributes.now label_count.old label_starts.now label_ends.now attributes.now attribute_count.old attribute_starts.now attribute_ends.now)) index.0 label.0 }
+    ensures { outcome (done_means result) (point_store s (tables floats window reference_count.new location.now index_starts.now index_ends.now labels.now label_attributes.now label_count.new label_starts.now label_ends.now attributes.now attribute_count.new attribute_starts.now attribute_ends.now)) ≡ inc_spec (point_store s (tables floats window reference_count.old location.now index_starts.now index_ends.now labels.now label_attributes.now label_count.old label_starts.now label_ends.now attributes.now attribute_count.old attribute_starts.now attribute_ends.now)) index.0 label.0 }
 {
-    let d = inc_test(s, reference_count, label_count, index, label);
-    match d {
-        Decision::Refuse(why) => DoneResult {
-            store: s,
-            answer: Done::Refused(why),
-        },
-        Decision::Go => {
-            inc_accepted(
-                s,
-                floats,
-                window,
-                reference_count,
-                location,
-                index_starts,
-                index_ends,
+    inc_test(s, reference_count, label_count, index, label)?;
+    inc_accepted(
+        s,
+        floats,
+        window,
+        reference_count,
+        location,
+        index_starts,
+        index_ends,
+        labels,
+        label_attributes,
+        label_count,
+        label_starts,
+        label_ends,
+        attributes,
+        attribute_count,
+        attribute_starts,
+        attribute_ends,
+        index,
+        label,
+    );
+    Ok(())
+}
+
+// The slices that are only read have one lifetime, since they stand in one value for the check.
+#[tactic(auto, using(crate::specs::CallLaws::inc_ill_formed, crate::specs::ReadingLaws::checked_well))]
+pub fn inc<'a>(
+    s: Store,
+    store: &[FloatBits],
+    last_known_shingle: &[FloatBits],
+    reference_count: &mut [u16],
+    location: &'a [u16],
+    index_starts: &'a [u16],
+    index_ends: &'a [u16],
+    labels: &'a [u8],
+    label_attributes: &'a [u16],
+    label_count: &mut [u16],
+    label_starts: &'a [u16],
+    label_ends: &'a [u16],
+    attributes: &'a [u8],
+    attribute_count: &mut [u32],
+    attribute_starts: &'a [u16],
+    attribute_ends: &'a [u16],
+    index: PointIndex,
+    label: LabelIndex,
+) -> Result<(), Refusal>
+    ensures { outcome (done_means result) (point_store s (held store.now last_known_shingle.now reference_count.new location.now index_starts.now index_ends.now labels.now label_attributes.now label_count.new label_starts.now label_ends.now attributes.now attribute_count.new attribute_starts.now attribute_ends.now)) ≡ inc_spec (point_store s (held store.now last_known_shingle.now reference_count.old location.now index_starts.now index_ends.now labels.now label_attributes.now label_count.old label_starts.now label_ends.now attributes.now attribute_count.old attribute_starts.now attribute_ends.now)) index.0 label.0 }
+{
+    check(
+        s,
+        store.len(),
+        last_known_shingle.len(),
+        Tables {
+            reference_count,
+            location,
+            index_starts,
+            index_ends,
+            label_tables: LabelTables {
                 labels,
                 label_attributes,
                 label_count,
@@ -114,40 +152,11 @@ pub fn inc_unchecked(
                 attribute_count,
                 attribute_starts,
                 attribute_ends,
-                index,
-                label,
-            );
-            DoneResult {
-                store: s,
-                answer: Done::Done,
-            }
-        }
-    }
-}
-
-pub fn inc(
-    s: Store,
-    store: &[u32],
-    last_known_shingle: &[u32],
-    reference_count: &mut [u16],
-    location: &[u16],
-    index_starts: &[u16],
-    index_ends: &[u16],
-    labels: &[u8],
-    label_attributes: &[u16],
-    label_count: &mut [u16],
-    label_starts: &[u16],
-    label_ends: &[u16],
-    attributes: &[u8],
-    attribute_count: &mut [u32],
-    attribute_starts: &[u16],
-    attribute_ends: &[u16],
-    index: PointIndex,
-    label: LabelIndex,
-) -> DoneResult
-    ensures { outcome (done_means result.answer) (point_store result.store (held store.now last_known_shingle.now reference_count.new location.now index_starts.now index_ends.now labels.now label_attributes.now label_count.new label_starts.now label_ends.now attributes.now attribute_count.new attribute_starts.now attribute_ends.now)) ≡ inc_spec (point_store s (held store.now last_known_shingle.now reference_count.old location.now index_starts.now index_ends.now labels.now label_attributes.now label_count.old label_starts.now label_ends.now attributes.now attribute_count.old attribute_starts.now attribute_ends.now)) index.0 label.0 }
-{
-    let checked = check(
+            },
+        },
+    )
+    .ok_or(Refusal::IllFormed)?;
+    inc_unchecked(
         s,
         store.len(),
         last_known_shingle.len(),
@@ -164,32 +173,7 @@ pub fn inc(
         attribute_count,
         attribute_starts,
         attribute_ends,
-    );
-    let well = checked.ok;
-    if well {
-        return inc_unchecked(
-            s,
-            store.len(),
-            last_known_shingle.len(),
-            reference_count,
-            location,
-            index_starts,
-            index_ends,
-            labels,
-            label_attributes,
-            label_count,
-            label_starts,
-            label_ends,
-            attributes,
-            attribute_count,
-            attribute_starts,
-            attribute_ends,
-            index,
-            label,
-        );
-    }
-    DoneResult {
-        store: s,
-        answer: Done::Refused(Refusal::IllFormed),
-    }
+        index,
+        label,
+    )
 }

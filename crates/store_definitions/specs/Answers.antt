@@ -1,17 +1,11 @@
 -- Answers in document 01's numbers and values, and what each answer of the code stands for.
-use Rattle.std.specs.Prelude.{ℕ, Bool, List}
+use Rattle.std.specs.Prelude.{ℕ, Bool, List, Option, Some, None, Result, Ok, Err}
 use Rattle.terms.specs.Refusals.{number}
 use Rattle.placement.specs.declared.Laid.{Laid}
-use Rattle.store_definitions.specs.declared.Added.{Added}
-use Rattle.store_definitions.specs.declared.Added.TheVariants as at_add
-use Rattle.store_definitions.specs.declared.Done.{Done}
-use Rattle.store_definitions.specs.declared.Done.TheVariants as at_done
-use Rattle.store_definitions.specs.declared.Adjusted.{Adjusted}
-use Rattle.store_definitions.specs.declared.Adjusted.TheVariants as at_adjust
-use Rattle.store_definitions.specs.declared.Number.{Number}
-use Rattle.store_definitions.specs.declared.Number.TheVariants as at_number
-use Rattle.store_definitions.specs.declared.Equality.{Equality}
-use Rattle.store_definitions.specs.declared.Equality.TheVariants as at_equality
+use Rattle.terms.specs.declared.Refusal.{Refusal}
+use Rattle.store_definitions.specs.declared.AdjustRefusal.{AdjustRefusal}
+use Rattle.store_definitions.specs.declared.Kept.{Kept}
+use Rattle.store_definitions.specs.declared.Store.{Store}
 use Rattle.store_definitions.specs.Memory.{PointStore}
 
 pub data Answer : Type 0 where
@@ -30,26 +24,32 @@ pub data Answer : Type 0 where
   -- an adjust's refusal, with how many pairs stand before the refused one
   refused_after : ℕ → ℕ → Answer
 
-abbrev pub added_means : Added → Answer
-added_means (at_add.Kept k) = kept k.index.0 k.label.0 k.laid k.free_indices
-added_means at_add.Waiting = waiting
-added_means (at_add.Refused r) = refused (number r)
+-- an accepted add that keeps no point answers None
+abbrev pub added_means : Result (Option Kept) Refusal → Answer
+added_means (Ok (Some k)) = kept k.index.0 k.label.0 k.laid k.free_indices
+added_means (Ok None) = waiting
+added_means (Err r) = refused (number r)
 
-abbrev pub done_means : Done → Answer
-done_means at_done.Done = done
-done_means (at_done.Refused r) = refused (number r)
+abbrev pub done_means : Result Unit Refusal → Answer
+done_means (Ok _) = done
+done_means (Err r) = refused (number r)
 
-abbrev pub adjusted_means : Adjusted → Answer
-adjusted_means at_adjust.Done = done
-adjusted_means (at_adjust.Refused r n) = refused_after (number r) n
+-- an opening that was accepted answers the store's record
+abbrev pub opened_means : Result Store Refusal → Answer
+opened_means (Ok _) = done
+opened_means (Err r) = refused (number r)
 
-abbrev pub number_means : Number → Answer
-number_means (at_number.Is n) = is n
-number_means (at_number.Refused r) = refused (number r)
+abbrev pub adjusted_means : Result Unit AdjustRefusal → Answer
+adjusted_means (Ok _) = done
+adjusted_means (Err r) = refused_after (number r.why) r.pairs_before
 
-abbrev pub equality_means : Equality → Answer
-equality_means (at_equality.Is b) = says b
-equality_means (at_equality.Refused r) = refused (number r)
+abbrev pub number_means : Result ℕ Refusal → Answer
+number_means (Ok n) = is n
+number_means (Err r) = refused (number r)
+
+abbrev pub equality_means : Result Bool Refusal → Answer
+equality_means (Ok b) = says b
+equality_means (Err r) = refused (number r)
 
 -- an answer with the store after the call
 pub record Outcome (E : Type 0) : Type 0 where

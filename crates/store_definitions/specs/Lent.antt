@@ -2,6 +2,7 @@
 -- elements are 32-bit float words.
 use Rattle.std.specs.Prelude.{ℕ, List}
 use denote.Triple.Both.{Both}
+use Rattle.store_definitions.specs.declared.tables.Tables.{Tables}
 use Rattle.store_definitions.specs.Memory.{Memory}
 
 abbrev pub Ref : Type 0
@@ -37,3 +38,10 @@ entered a b c d e f g h i j k l m n o =
 abbrev pub left : Slice → Slice → Slice → Slice → Slice → Slice → Slice → Slice → Slice → Slice → Slice → Slice → Slice → Slice → Slice → Memory ℕ
 left a b c d e f g h i j k l m n o =
     held a.exit b.exit c.exit d.exit e.exit f.exit g.exit h.exit i.exit j.exit k.exit l.exit m.exit n.exit o.exit
+
+-- as a call that reads gets it
+abbrev pub lent : Ref → Ref → Tables → Memory ℕ
+lent store window t =
+    held store window t.reference_count.now t.location.now t.index_starts.now t.index_ends.now t.label_tables.labels.now
+    t.label_tables.label_attributes.now t.label_tables.label_count.now t.label_tables.label_starts.now t.label_tables.label_ends.now
+    t.label_tables.attributes.now t.label_tables.attribute_count.now t.label_tables.attribute_starts.now t.label_tables.attribute_ends.now

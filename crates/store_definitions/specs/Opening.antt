@@ -1,7 +1,8 @@
 -- Document 01, 'Opening'.
-use Rattle.std.specs.Prelude.{ℕ, ◌*◌, ◌-◌, Bool, false, cond, ◌&&◌, List, ◌++◌, drop, replicate, set}
+use Rattle.std.specs.Prelude.{ℕ, ◌*◌, ◌-◌, Bool, false, cond, ◌&&◌, is_some, List, ◌++◌, drop, replicate, set, Result, Ok, Err}
+use Rattle.terms.specs.declared.Refusal.{Refusal}
 use Rattle.interval_store_manager.specs.Calls.{Decided, go, refuse, manager}
-use Rattle.class_table.specs.Text.{table_read}
+use Rattle.class_table.specs.Text.{table_read, table_of}
 use Rattle.labels.specs.Opening.{labels_opened}
 use Rattle.store_definitions.specs.declared.Store.{Store}
 use Rattle.store_definitions.specs.declared.Shape.{Shape}
@@ -24,7 +25,7 @@ open_judged h table m =
     (refuse 2)
 
 unfoldable pub open_decided : {E : Type 0} → Shape → (text : List ℕ) → Memory E → Decided
-open_decided h text m = open_judged h (table_read text).ok m
+open_decided h text m = open_judged h (is_some (table_read text)) m
 
 -- 'Store length starts at starting capacity × dimensions ..; sequence, free start .. 0'; all indices are free
 abbrev pub fresh_with : Shape → (classes : List ℕ) → Store
@@ -47,7 +48,7 @@ fresh_with h classes =
 
 -- the table of classes is the one that the text holds
 abbrev pub fresh_record : Shape → List ℕ → Store
-fresh_record h text = fresh_with h (table_read text).classes
+fresh_record h text = fresh_with h (table_of text)
 
 -- the record of zeros, where there is no store: it is ill-formed
 abbrev pub no_record : Store
@@ -67,6 +68,11 @@ no_record =
       attribute_manager = manager 0 0;
       classes = replicate 24 0;
     }
+
+-- the record that an opening leaves
+abbrev pub opened_store : Result Store Refusal → Store
+opened_store (Ok s) = s
+opened_store (Err _) = no_record
 
 -- the first n entries made x; a longer slice keeps its rest
 abbrev pub filled_first : {X : Type 0} → ℕ → X → List X → List X

@@ -2,8 +2,11 @@
 // stands in the crates above, and its contracts cite these definitions.
 #![tactic(auto)]
 
+mod tables;
+
 use interval_store_manager::IntervalStoreManager;
 use placement::Laid;
+pub use tables::Tables;
 use terms::{LabelIndex, PointIndex, Refusal};
 
 // The record of a store, under the Rust's names. What the Rust keeps in vectors is lent beside it.
@@ -49,37 +52,11 @@ pub struct Kept {
     pub free_indices: usize,
 }
 
-#[derive(Clone, Copy)]
-pub enum Added {
-    Kept(Kept),
-    Waiting,
-    Refused(Refusal),
-}
-
-// The answer of a call that has no value.
-#[derive(Clone, Copy)]
-pub enum Done {
-    Done,
-    Refused(Refusal),
-}
-
-// An adjust's answer: a refusal comes with how many pairs stand before the refused one.
-#[derive(Clone, Copy)]
-pub enum Adjusted {
-    Done,
-    Refused(Refusal, usize),
-}
-
-#[derive(Clone, Copy)]
-pub enum Number {
-    Is(usize),
-    Refused(Refusal),
-}
-
-#[derive(Clone, Copy)]
-pub enum Equality {
-    Is(bool),
-    Refused(Refusal),
+// Why an adjust stopped, and how many pairs stand before the refused one.
+#[derive(Clone, Copy, PartialEq, Eq, Debug)]
+pub struct AdjustRefusal {
+    pub why: Refusal,
+    pub pairs_before: usize,
 }
 
 // A point index with a label index: what an inc or a dec takes.
@@ -104,23 +81,4 @@ pub struct Pair {
 pub struct Item {
     pub index: PointIndex,
     pub weight: usize,
-}
-
-// The record after a call, with its answer. A refused opening gives a record of zeros.
-#[derive(Clone, Copy)]
-pub struct DoneResult {
-    pub store: Store,
-    pub answer: Done,
-}
-
-#[derive(Clone, Copy)]
-pub struct AddResult {
-    pub store: Store,
-    pub answer: Added,
-}
-
-#[derive(Clone, Copy)]
-pub struct AdjustResult {
-    pub store: Store,
-    pub answer: Adjusted,
 }

@@ -1,5 +1,5 @@
 -- Opening: which shapes over which memory are accepted, what a refused opening gives, and that an accepted one is well-formed.
-use Rattle.std.specs.Prelude.{ℕ, ◌*◌, ◌-◌, ◌/◌, ◌≤◌, ◌<◌, Bool, cond, ◌&&◌, List, refl, length, get_or, take, drop, replicate}
+use Rattle.std.specs.Prelude.{ℕ, ◌*◌, ◌-◌, ◌/◌, ◌≤◌, ◌<◌, Bool, cond, ◌&&◌, None, is_some, List, refl, length, get_or, take, drop, replicate}
 use Rattle.std.proofs.Math.Nat.{dvd-zero}
 use Rattle.std.proofs.Common.{mul-le-mul_right, arith, inl, ◌∙◌, length-append, length-drop, length-set}
 use Rattle.std.proofs.Math.Bool.{true, false}
@@ -10,8 +10,8 @@ use borrow.Author.Tests.{eq-eqb}
 use Rattle.terms.specs.Below.{both}
 use Rattle.interval_store_manager.specs.Calls.{Decided, go, refuse, manager}
 use Rattle.placement.specs.Places.{Live}
-use Rattle.class_table.specs.Text.{table_read}
-use Rattle.class_table.specs.TextLaws.{text_accepted}
+use Rattle.class_table.specs.Text.{table_read, table_of}
+use Rattle.class_table.specs.TextLaws.{text_accepted, table_of_read}
 use Rattle.labels.specs.Counted.{counted}
 use Rattle.labels.specs.Labels.{Labels}
 use Rattle.labels.specs.Opening.{labels_opened, table_opened_lem, opened_well}
@@ -37,7 +37,7 @@ pub record Openable {E : Type 0} (h : Shape) (text : List ℕ) (m : Memory E) : 
   pub start_least : 1 ≤ h.initial_capacity
   pub start_most : h.initial_capacity ≤ h.capacity
   pub enough : Lent h.dimensions h.capacity h.store_labels m
-  pub classes_read : (table_read text).ok ≡ true
+  pub classes_read : is_some (table_read text) ≡ true
 
 -- the first n entries made x
 module _ {X : Type 0} (n : ℕ) (x : X) (xs : List X) where
@@ -74,7 +74,7 @@ module _ {E : Type 0} (h : Shape) (text : List ℕ) (m : Memory E) where
   pub open_accepted : open_decided h text m ≡ go → Openable h text m
   unfolding open_decided
   open_accepted e =
-      let p = open_go shape_holds memory_holds (table_read text).ok e in
+      let p = open_go shape_holds memory_holds (is_some (table_read text)) e in
       let q = both (bounds_hold h.dimensions h.shingle_size h.capacity) (start_allowed h.initial_capacity h.capacity) p.0 in
       let t = start_allowed_lem h.initial_capacity h.capacity q.1 in
       record {
@@ -94,7 +94,7 @@ module _ {E : Type 0} (h : Shape) (text : List ℕ) (m : Memory E) where
   unfolding open_decided
   open_short e f = rw (e, f)
 
-  pub open_text : shape_holds ≡ true → memory_holds ≡ true → (table_read text).ok ≡ false → open_decided h text m ≡ refuse 17
+  pub open_text : shape_holds ≡ true → memory_holds ≡ true → table_read text ≡ None → open_decided h text m ≡ refuse 17
   unfolding open_decided
   open_text e f g = rw (e, f, g)
 
@@ -171,7 +171,7 @@ module _ {E : Type 0} (h : Shape) (text : List ℕ) (m : Memory E) where
           }
 
       -- whatever the label half, if it is sound where labels are on
-      opened_with : (l : Labels) → (h.store_labels ≡ true → LabelsSound (table_read text).classes h.capacity l) → Sound (with_labels l fresh)
+      opened_with : (l : Labels) → (h.store_labels ≡ true → LabelsSound (table_of text) h.capacity l) → Sound (with_labels l fresh)
       unfolding opened_memory rotation_allowed
       opened_with l f =
           record {
@@ -193,15 +193,15 @@ module _ {E : Type 0} (h : Shape) (text : List ℕ) (m : Memory E) where
                 eq-eqb (get_or (filled_first start 0 m.reference_count) i 0) 0 (filled_at start 0 m.reference_count i 0 l)
                 ∙ sym (eq-eqb (get_or places i 65535) 65535 (filled_at start 65535 m.location i 65535 l));
             sequence_most = omega arith;
-            classes_allowed = (text_accepted text o.classes_read).1;
+            classes_allowed = (text_accepted text (table_of text) (table_of_read text o.classes_read)).1;
             counts_most = λ i l. rw (filled_at start 0 m.reference_count i 0 l) (omega arith);
             labels = f;
           }
 
-      labels_opened_lem : LabelsLent h.capacity m → LabelsSound (table_read text).classes h.capacity (labels_opened h.capacity (label_half fresh))
+      labels_opened_lem : LabelsLent h.capacity m → LabelsSound (table_of text) h.capacity (labels_opened h.capacity (label_half fresh))
       unfolding opened_memory
       labels_opened_lem l =
-          opened_well h.capacity o.bounds.capacity_least o.bounds.capacity_most (table_read text).classes (label_half fresh) l.codes_lent l.slots_lent
+          opened_well h.capacity o.bounds.capacity_least o.bounds.capacity_most (table_of text) (label_half fresh) l.codes_lent l.slots_lent
           (record { counts = l.label_counts_lent; starts = l.label_starts_lent; ends = l.label_ends_lent })
           l.classes_lent
           (record { counts = l.slot_counts_lent; starts = l.slot_starts_lent; ends = l.slot_ends_lent })

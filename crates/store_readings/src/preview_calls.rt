@@ -1,58 +1,26 @@
 // The window that a next point would make.
 ghost use Rattle.std.specs.Prelude.{◌≡◌};
 ghost use Rattle.store_definitions.specs.Answers.{done_means, output};
-ghost use Rattle.store_definitions.specs.Lent.{held};
+ghost use Rattle.store_definitions.specs.Lent.{lent};
 ghost use Rattle.store_definitions.specs.Memory.{point_store};
 ghost use Rattle.store_definitions.specs.Preview.{shingled_point_spec};
 
 use row_readings::shingled_point_unchecked;
 use store_check::check;
-use store_definitions::{Done, Store};
+use store_definitions::{Store, Tables};
 use terms::{FloatBits, Refusal};
 
+#[tactic(auto, using(store_check::specs::Checked::check_failed, store_laws::specs::IllFormedLaws::preview_ill))]
 pub fn shingled_point(
     s: Store,
     store: &[FloatBits],
     last_known_shingle: &[FloatBits],
-    reference_count: &[u16],
-    location: &[u16],
-    index_starts: &[u16],
-    index_ends: &[u16],
-    labels: &[u8],
-    label_attributes: &[u16],
-    label_count: &[u16],
-    label_starts: &[u16],
-    label_ends: &[u16],
-    attributes: &[u8],
-    attribute_count: &[u32],
-    attribute_starts: &[u16],
-    attribute_ends: &[u16],
+    tables: Tables,
     point: &[FloatBits],
     out: &mut [FloatBits],
-) -> Done
-    ensures { output (done_means result) out.new ≡ shingled_point_spec (point_store s (held store.now last_known_shingle.now reference_count.now location.now index_starts.now index_ends.now labels.now label_attributes.now label_count.now label_starts.now label_ends.now attributes.now attribute_count.now attribute_starts.now attribute_ends.now)) point.now out.old }
+) -> Result<(), Refusal>
+    ensures { output (done_means result) out.new ≡ shingled_point_spec (point_store s (lent store.now last_known_shingle.now tables.entry)) point.now out.old }
 {
-    let checked = check(
-        s,
-        store.len(),
-        last_known_shingle.len(),
-        reference_count,
-        location,
-        index_starts,
-        index_ends,
-        labels,
-        label_attributes,
-        label_count,
-        label_starts,
-        label_ends,
-        attributes,
-        attribute_count,
-        attribute_starts,
-        attribute_ends,
-    );
-    let well = checked.ok;
-    if well {
-        return shingled_point_unchecked(s, last_known_shingle, point, out);
-    }
-    Done::Refused(Refusal::IllFormed)
+    check(s, store.len(), last_known_shingle.len(), tables).ok_or(Refusal::IllFormed)?;
+    shingled_point_unchecked(s, last_known_shingle, point, out)
 }

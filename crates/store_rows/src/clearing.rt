@@ -6,7 +6,6 @@ ghost use Rattle.labels.specs.Opening.{Openable};
 ghost use Rattle.store_rows.specs.Openings.{PointsReady, points, points_opened, label_managers, labels_opened_if};
 
 use interval_store_manager::IntervalStoreManager;
-use placement_rows::{fill, fill_table};
 use store_definitions::Shape;
 use terms::{EMPTY_PLACE, FloatBits};
 
@@ -15,7 +14,7 @@ fn open_stack(capacity: usize, starts: &mut [u16], ends: &mut [u16])
     requires { Openable capacity starts.old ends.old }
     ensures { (starts.new ≡ set starts.old 0 0) × (ends.new ≡ set ends.old 0 (capacity - 1)) }
 {
-    IntervalStoreManager::new(capacity, starts, ends);
+    let _ = IntervalStoreManager::new(capacity, starts, ends);
 }
 
 pub fn open_points(
@@ -31,10 +30,10 @@ pub fn open_points(
     ensures { points store.new last_known_shingle.new reference_count.new location.new index_starts.new index_ends.new ≡ points_opened shape (points store.old last_known_shingle.old reference_count.old location.old index_starts.old index_ends.old) }
 {
     let start = shape.initial_capacity;
-    fill(store, 0, start * shape.dimensions, 0);
-    fill(last_known_shingle, 0, shape.dimensions, 0);
-    fill_table(reference_count, 0, start, 0);
-    fill_table(location, 0, start, EMPTY_PLACE);
+    store[..start * shape.dimensions].fill(0);
+    last_known_shingle[..shape.dimensions].fill(0);
+    reference_count[..start].fill(0);
+    location[..start].fill(EMPTY_PLACE);
     open_stack(start, index_starts, index_ends);
 }
 

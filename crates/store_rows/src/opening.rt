@@ -1,46 +1,48 @@
 // Opening a store in lent memory.
 ghost use Rattle.std.specs.Prelude.{true, ◌≡◌, ◌*◌, ◌≤◌};
 ghost use Rattle.interval_store_manager.specs.Calls.{decision_means};
-ghost use Rattle.labels.specs.Forms.{held as labels_held};
-ghost use Rattle.store_definitions.specs.Answers.{done_means, outcome};
+ghost use Rattle.labels.specs.Lent.{labels_lent as labels_held};
+ghost use Rattle.store_definitions.specs.Answers.{opened_means, outcome};
 ghost use Rattle.store_definitions.specs.Bounds.{bounds_hold, lent_enough};
-ghost use Rattle.store_definitions.specs.Lent.{held};
+ghost use Rattle.store_definitions.specs.Lent.{held, lent};
 ghost use Rattle.store_definitions.specs.Memory.{point_store};
-ghost use Rattle.store_definitions.specs.Opening.{fresh_with, no_record, open_judged, open_spec};
+ghost use Rattle.store_definitions.specs.Opening.{fresh_with, no_record, open_judged, open_spec, opened_store, shape_allowed};
 ghost use Rattle.store_rows.specs.Openings.{label_managers, labels_lent_if};
 
 use crate::clearing::{open_labels, open_points};
 use class_table::read_classes;
-use interval_store_manager::{Decision, IntervalStoreManager};
+use interval_store_manager::IntervalStoreManager;
+use labels::LabelTables;
 use store_check::bounds_hold;
-use store_definitions::{Done, DoneResult, Shape, Store};
+use store_definitions::{Shape, Store, Tables};
 use terms::{FloatBits, Refusal};
 
+// The shape within the bounds.
+#[tactic(auto, unfolding(store_definitions::specs::Bounds::start_allowed))]
+pub fn shape_allowed(shape: Shape) -> bool
+    ensures { result ≡ shape_allowed shape }
+{
+    if bounds_hold(shape.dimensions, shape.shingle_size, shape.capacity) {
+        return (1 <= shape.initial_capacity) & (shape.initial_capacity <= shape.capacity);
+    }
+    false
+}
+
 // With labels off none is asked for.
-fn labels_lent(
-    store_labels: bool,
-    capacity: usize,
-    labels: &[u8],
-    label_attributes: &[u16],
-    label_count: &[u16],
-    label_starts: &[u16],
-    label_ends: &[u16],
-    attributes: &[u8],
-    attribute_count: &[u32],
-    attribute_starts: &[u16],
-    attribute_ends: &[u16],
-) -> bool
-    ensures { result ≡ labels_lent_if store_labels capacity (labels_held (label_managers capacity) labels.now label_attributes.now label_count.now label_starts.now label_ends.now attributes.now attribute_count.now attribute_starts.now attribute_ends.now) }
+#[tactic(auto, unfolding(crate::specs::Openings::labels_lent_if))]
+fn labels_lent(store_labels: bool, capacity: usize, tables: LabelTables) -> bool
+    ensures { result ≡ labels_lent_if store_labels capacity (labels_held (label_managers capacity) tables.entry) }
 {
     if store_labels {
-        let slots = (capacity <= attributes.len())
-            & ((capacity <= attribute_count.len())
-                & ((capacity <= attribute_starts.len()) & (capacity <= attribute_ends.len())));
-        return (capacity <= labels.len())
-            & ((capacity <= label_attributes.len())
-                & ((capacity <= label_count.len())
-                    & ((capacity <= label_starts.len())
-                        & ((capacity <= label_ends.len()) & slots))));
+        let slots = (capacity <= tables.attributes.len())
+            & ((capacity <= tables.attribute_count.len())
+                & ((capacity <= tables.attribute_starts.len())
+                    & (capacity <= tables.attribute_ends.len())));
+        return (capacity <= tables.labels.len())
+            & ((capacity <= tables.label_attributes.len())
+                & ((capacity <= tables.label_count.len())
+                    & ((capacity <= tables.label_starts.len())
+                        & ((capacity <= tables.label_ends.len()) & slots))));
     }
     true
 }
@@ -50,100 +52,37 @@ fn enough_lent(
     shape: Shape,
     store: &[FloatBits],
     last_known_shingle: &[FloatBits],
-    reference_count: &[u16],
-    location: &[u16],
-    index_starts: &[u16],
-    index_ends: &[u16],
-    labels: &[u8],
-    label_attributes: &[u16],
-    label_count: &[u16],
-    label_starts: &[u16],
-    label_ends: &[u16],
-    attributes: &[u8],
-    attribute_count: &[u32],
-    attribute_starts: &[u16],
-    attribute_ends: &[u16],
+    tables: Tables,
 ) -> bool
     requires { bounds_hold shape.dimensions shape.shingle_size shape.capacity ≡ true }
-    ensures { result ≡ lent_enough shape.dimensions shape.capacity shape.store_labels (held store.now last_known_shingle.now reference_count.now location.now index_starts.now index_ends.now labels.now label_attributes.now label_count.now label_starts.now label_ends.now attributes.now attribute_count.now attribute_starts.now attribute_ends.now) }
+    ensures { result ≡ lent_enough shape.dimensions shape.capacity shape.store_labels (lent store.now last_known_shingle.now tables.entry) }
 {
     let capacity = shape.capacity;
-    let of_labels = labels_lent(
-        shape.store_labels,
-        capacity,
-        labels,
-        label_attributes,
-        label_count,
-        label_starts,
-        label_ends,
-        attributes,
-        attribute_count,
-        attribute_starts,
-        attribute_ends,
-    );
+    let of_labels = labels_lent(shape.store_labels, capacity, tables.label_tables);
     (capacity * shape.dimensions <= store.len())
         & ((shape.dimensions <= last_known_shingle.len())
-            & ((capacity <= reference_count.len())
-                & ((capacity <= location.len())
-                    & ((capacity <= index_starts.len())
-                        & ((capacity <= index_ends.len()) & of_labels)))))
+            & ((capacity <= tables.reference_count.len())
+                & ((capacity <= tables.location.len())
+                    & ((capacity <= tables.index_starts.len())
+                        & ((capacity <= tables.index_ends.len()) & of_labels)))))
 }
 
-// 17 comes last: whether the text holds a table is known before, and asked after all else.
+// Whatever the text holds: that it holds no table is the last refusal.
 fn opening_decision(
     shape: Shape,
-    table: bool,
     store: &[FloatBits],
     last_known_shingle: &[FloatBits],
-    reference_count: &[u16],
-    location: &[u16],
-    index_starts: &[u16],
-    index_ends: &[u16],
-    labels: &[u8],
-    label_attributes: &[u16],
-    label_count: &[u16],
-    label_starts: &[u16],
-    label_ends: &[u16],
-    attributes: &[u8],
-    attribute_count: &[u32],
-    attribute_starts: &[u16],
-    attribute_ends: &[u16],
-) -> Decision
-    ensures { decision_means result ≡ open_judged shape table (held store.now last_known_shingle.now reference_count.now location.now index_starts.now index_ends.now labels.now label_attributes.now label_count.now label_starts.now label_ends.now attributes.now attribute_count.now attribute_starts.now attribute_ends.now) }
+    tables: Tables,
+) -> Result<(), Refusal>
+    ensures { decision_means result ≡ open_judged shape true (lent store.now last_known_shingle.now tables.entry) }
 {
-    if bounds_hold(shape.dimensions, shape.shingle_size, shape.capacity) {
-        if shape.initial_capacity < 1 {
-            return Decision::Refuse(Refusal::Shape);
-        }
-        if shape.capacity < shape.initial_capacity {
-            return Decision::Refuse(Refusal::Shape);
-        }
-        if enough_lent(
-            shape,
-            store,
-            last_known_shingle,
-            reference_count,
-            location,
-            index_starts,
-            index_ends,
-            labels,
-            label_attributes,
-            label_count,
-            label_starts,
-            label_ends,
-            attributes,
-            attribute_count,
-            attribute_starts,
-            attribute_ends,
-        ) {
-            if table {
-                return Decision::Go;
-            }
-            return Decision::Refuse(Refusal::ClassText);
-        }
-        return Decision::Refuse(Refusal::IllFormed);
+    if !shape_allowed(shape) {
+        return Err(Refusal::Shape);
     }
-    Decision::Refuse(Refusal::Shape)
+    if !enough_lent(shape, store, last_known_shingle, tables) {
+        return Err(Refusal::IllFormed);
+    }
+    Ok(())
 }
 
 fn fresh_record(shape: Shape, classes: [u8; 24]) -> Store
@@ -221,15 +160,10 @@ pub fn open(
     attribute_starts: &mut [u16],
     attribute_ends: &mut [u16],
     class_text: &[u8],
-) -> DoneResult
-    ensures { outcome (done_means result.answer) (point_store result.store (held store.new last_known_shingle.new reference_count.new location.new index_starts.new index_ends.new labels.new label_attributes.new label_count.new label_starts.new label_ends.new attributes.new attribute_count.new attribute_starts.new attribute_ends.new)) ≡ open_spec 0 shape class_text.now (held store.old last_known_shingle.old reference_count.old location.old index_starts.old index_ends.old labels.old label_attributes.old label_count.old label_starts.old label_ends.old attributes.old attribute_count.old attribute_starts.old attribute_ends.old) }
+) -> Result<Store, Refusal>
+    ensures { outcome (opened_means result) (point_store (opened_store result) (held store.new last_known_shingle.new reference_count.new location.new index_starts.new index_ends.new labels.new label_attributes.new label_count.new label_starts.new label_ends.new attributes.new attribute_count.new attribute_starts.new attribute_ends.new)) ≡ open_spec 0 shape class_text.now (held store.old last_known_shingle.old reference_count.old location.old index_starts.old index_ends.old labels.old label_attributes.old label_count.old label_starts.old label_ends.old attributes.old attribute_count.old attribute_starts.old attribute_ends.old) }
 {
-    let read = read_classes(class_text);
-    let d = opening_decision(
-        shape,
-        read.ok,
-        store,
-        last_known_shingle,
+    let tables = Tables::new(
         reference_count,
         location,
         index_starts,
@@ -244,43 +178,30 @@ pub fn open(
         attribute_starts,
         attribute_ends,
     );
-    match d {
-        Decision::Refuse(why) => {
-            let none = no_record();
-            DoneResult {
-                store: none,
-                answer: Done::Refused(why),
-            }
-        }
-        Decision::Go => {
-            let classes = read.classes;
-            let fresh = fresh_record(shape, classes);
-            open_points(
-                shape,
-                store,
-                last_known_shingle,
-                reference_count,
-                location,
-                index_starts,
-                index_ends,
-            );
-            open_labels(
-                shape.store_labels,
-                shape.capacity,
-                labels,
-                label_attributes,
-                label_count,
-                label_starts,
-                label_ends,
-                attributes,
-                attribute_count,
-                attribute_starts,
-                attribute_ends,
-            );
-            DoneResult {
-                store: fresh,
-                answer: Done::Done,
-            }
-        }
-    }
+    opening_decision(shape, store, last_known_shingle, tables)?;
+    let classes = read_classes(class_text).ok_or(Refusal::ClassText)?;
+    let fresh = fresh_record(shape, classes);
+    open_points(
+        shape,
+        store,
+        last_known_shingle,
+        reference_count,
+        location,
+        index_starts,
+        index_ends,
+    );
+    open_labels(
+        shape.store_labels,
+        shape.capacity,
+        labels,
+        label_attributes,
+        label_count,
+        label_starts,
+        label_ends,
+        attributes,
+        attribute_count,
+        attribute_starts,
+        attribute_ends,
+    );
+    Ok(fresh)
 }

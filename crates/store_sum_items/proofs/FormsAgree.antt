@@ -4,8 +4,8 @@ use Rattle.std.proofs.Common.{ap}
 use Rattle.store_definitions.specs.declared.Item.{Item}
 use Rattle.store_definitions.specs.Memory.{PointStore}
 use Rattle.store_definitions.specs.Sums.{Weighted, point_sum_spec}
-use Rattle.row_readings.specs.Items.{weightings}
-use Rattle.store_sum_items.specs.Records.{weighting_of, weightings_of, numbers_of}
+use Rattle.row_readings.specs.Items.{weightings, weighting_of, weightings_of}
+use Rattle.store_sum_items.specs.Records.{numbers_of}
 
 pub same_weightings : (xs : List Item) → weightings (numbers_of xs) ≡ weightings_of xs
 unfolding weightings weightings_of numbers_of

@@ -7,7 +7,6 @@ mod cases;
 mod preview_cases;
 mod print;
 mod reading_cases;
-mod readings;
 
 use std::io;
 

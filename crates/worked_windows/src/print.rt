@@ -1,166 +1,113 @@
-// Lines of the table: the call, its answer (of a kept add with how many indices are left), the free start after it.
+// Answers and rows as the table shows them.
+use float_bits::{float_of_word, word_of_float};
 use placement::Laid;
-use std::io;
-use store_definitions::{Added, Adjusted, Done, Equality, Kept, Number};
-use terms::{NONE, Refusal, refusal_number};
+use std::fmt;
+use store_definitions::{AdjustRefusal, Kept, Shape};
+use terms::{FloatBits, NONE, Refusal};
 
-// The words of the floats 0.0 to 12.0.
-const WORDS: [u32; 13] = [
-    0,
-    0x3f80_0000,
-    0x4000_0000,
-    0x4040_0000,
-    0x4080_0000,
-    0x40a0_0000,
-    0x40c0_0000,
-    0x40e0_0000,
-    0x4100_0000,
-    0x4110_0000,
-    0x4120_0000,
-    0x4130_0000,
-    0x4140_0000,
-];
+// What was asked for, or the number of the refusal.
+#[derive(Clone, Copy)]
+pub struct Answer<T>(pub Result<T, Refusal>);
 
-pub fn word(n: usize) -> u32 {
-    if n < 13 {
-        return WORDS[n];
-    }
-    0
-}
-
-pub fn text(rt: &impl Print, t: &[u8]) -> io::Result<()> {
-    rt.write_all(t)
-}
-
-pub fn number(rt: &impl Print, n: usize) -> io::Result<()> {
-    rt.print(n)
-}
-
-fn refusal(rt: &impl Print, r: Refusal) -> io::Result<()> {
-    text(rt, b"refused ")?;
-    number(rt, refusal_number(r) as usize)
-}
-
-fn laid(rt: &impl Print, l: Laid) -> io::Result<()> {
-    match l {
-        Laid::Whole(place) => {
-            text(rt, b", whole at place ")?;
-            number(rt, place)
-        }
-        Laid::Joined(place) => {
-            text(rt, b", joined at place ")?;
-            number(rt, place)
+impl<T: fmt::Display> fmt::Display for Answer<T> {
+    fn fmt<W: fmt::Write>(&self, f: &mut fmt::Formatter<W>) -> fmt::Result {
+        match &self.0 {
+            Ok(value) => write!(f, "{value}"),
+            Err(why) => write!(f, "refused {}", u64::from(*why)),
         }
     }
 }
 
-fn kept(rt: &impl Print, k: Kept) -> io::Result<()> {
-    text(rt, b"index ")?;
-    let index = k.index;
-    number(rt, index.0)?;
-    let label = k.label;
-    if label.0 != NONE {
-        text(rt, b", label index ")?;
-        number(rt, label.0)?;
-    }
-    let how = k.laid;
-    laid(rt, how)?;
-    text(rt, b", left ")?;
-    number(rt, k.free_indices)
+// The answer of a call that has no value.
+pub fn done(answer: Result<(), Refusal>) -> Answer<&'static str> {
+    Answer(answer.map(|()| "done"))
 }
 
-pub fn added(rt: &impl Print, a: Added) -> io::Result<()> {
-    match a {
-        Added::Kept(k) => kept(rt, k),
-        Added::Waiting => text(rt, b"waiting"),
-        Added::Refused(r) => refusal(rt, r),
+// An add's answer: of a kept one with how many indices are left.
+#[derive(Clone, Copy)]
+pub struct KeptOrWaiting(Option<Kept>);
+
+pub fn added(answer: Result<Option<Kept>, Refusal>) -> Answer<KeptOrWaiting> {
+    Answer(answer.map(KeptOrWaiting))
+}
+
+impl fmt::Display for KeptOrWaiting {
+    fn fmt<W: fmt::Write>(&self, f: &mut fmt::Formatter<W>) -> fmt::Result {
+        let Some(kept) = self.0 else {
+            return write!(f, "waiting");
+        };
+        write!(f, "index {}", kept.index.0)?;
+        if kept.label.0 != NONE {
+            write!(f, ", label index {}", kept.label.0)?;
+        }
+        match kept.laid {
+            Laid::Whole(place) => write!(f, ", whole at place {place}")?,
+            Laid::Joined(place) => write!(f, ", joined at place {place}")?,
+        }
+        write!(f, ", left {}", kept.free_indices)
     }
 }
 
-pub fn done(rt: &impl Print, d: Done) -> io::Result<()> {
-    match d {
-        Done::Done => text(rt, b"done"),
-        Done::Refused(r) => refusal(rt, r),
-    }
-}
+#[derive(Clone, Copy)]
+pub struct Adjusted(pub Result<(), AdjustRefusal>);
 
-pub fn adjusted(rt: &impl Print, a: Adjusted) -> io::Result<()> {
-    match a {
-        Adjusted::Done => text(rt, b"done"),
-        Adjusted::Refused(r, pairs) => {
-            refusal(rt, r)?;
-            text(rt, b" after ")?;
-            number(rt, pairs)?;
-            text(rt, b" pairs")
+impl fmt::Display for Adjusted {
+    fn fmt<W: fmt::Write>(&self, f: &mut fmt::Formatter<W>) -> fmt::Result {
+        match self.0 {
+            Ok(()) => write!(f, "done"),
+            Err(AdjustRefusal { why, pairs_before }) => {
+                write!(f, "refused {} after {pairs_before} pairs", u64::from(why))
+            }
         }
     }
 }
 
-pub fn answer(rt: &impl Print, n: Number) -> io::Result<()> {
-    match n {
-        Number::Is(k) => number(rt, k),
-        Number::Refused(r) => refusal(rt, r),
-    }
-}
+// What a new store is asked for.
+#[derive(Clone, Copy)]
+pub struct Asked(pub Shape);
 
-fn truth(rt: &impl Print, b: bool) -> io::Result<()> {
-    if b {
-        return text(rt, b"true");
-    }
-    text(rt, b"false")
-}
-
-pub fn equality(rt: &impl Print, e: Equality) -> io::Result<()> {
-    match e {
-        Equality::Is(b) => truth(rt, b),
-        Equality::Refused(r) => refusal(rt, r),
-    }
-}
-
-// The float of a word, or 13 where it is none of the worked windows'.
-fn shown(w: u32) -> usize {
-    let mut n: usize = 0;
-    while n < 13 {
-        if WORDS[n] == w {
-            return n;
+impl fmt::Display for Asked {
+    fn fmt<W: fmt::Write>(&self, f: &mut fmt::Formatter<W>) -> fmt::Result {
+        let shape = self.0;
+        write!(f, "dimensions {}", shape.dimensions)?;
+        write!(f, ", shingle size {}", shape.shingle_size)?;
+        write!(f, ", capacity {}", shape.capacity)?;
+        write!(f, ", start {}", shape.initial_capacity)?;
+        if shape.internal_shingling {
+            write!(f, ", internal shingling")?;
         }
-        n += 1;
+        if shape.internal_rotation {
+            write!(f, ", rotation")?;
+        }
+        if shape.store_labels {
+            write!(f, ", labels")?;
+        }
+        Ok(())
     }
-    n
 }
 
-pub fn float(rt: &impl Print, w: u32) -> io::Result<()> {
-    let n = shown(w);
-    if n < 13 {
-        return number(rt, n);
+// Floats by their words, shown with a space between them.
+#[derive(Clone, Copy)]
+pub struct Row<const N: usize>(pub [FloatBits; N]);
+
+impl<const N: usize> Row<N> {
+    pub fn of(floats: [f32; N]) -> Self {
+        let mut words = [0; N];
+        for (word, float) in words.iter_mut().zip(&floats) {
+            *word = word_of_float(*float);
+        }
+        Row(words)
     }
-    text(rt, b"?")
 }
 
-pub fn row(rt: &impl Print, r: [u32; 4]) -> io::Result<()> {
-    float(rt, r[0])?;
-    text(rt, b" ")?;
-    float(rt, r[1])?;
-    text(rt, b" ")?;
-    float(rt, r[2])?;
-    text(rt, b" ")?;
-    float(rt, r[3])
-}
-
-// Any number of floats, each after a space.
-pub fn vector(rt: &impl Print, v: &[u32]) -> io::Result<()> {
-    let mut i: usize = 0;
-    while i < v.len() {
-        text(rt, b" ")?;
-        float(rt, v[i])?;
-        i += 1;
+impl<const N: usize> fmt::Display for Row<N> {
+    fn fmt<W: fmt::Write>(&self, f: &mut fmt::Formatter<W>) -> fmt::Result {
+        let mut between = "";
+        for word in &self.0 {
+            let float = float_of_word(*word);
+            write!(f, "{between}{float}")?;
+            between = " ";
+        }
+        Ok(())
     }
-    Ok(())
-}
-
-// The end of a line: the free start after the call.
-pub fn free(rt: &impl Print, start: usize) -> io::Result<()> {
-    text(rt, b"; free start ")?;
-    number(rt, start)?;
-    text(rt, b"\n")
 }

@@ -1,124 +1,102 @@
 // The other readings, of small stores: what is compared and added up of rows, and what is read of labels.
-use crate::cases::{add_two, new_store, new_store_with, opened};
-use crate::print::{added, answer, done, equality, free, number, row, text, vector, word};
-use crate::readings::{sum_rows, vector_of};
-use block::{Block, add_row, class_of, code_of, equal_point};
-use std::io;
-use store_definitions::Shape;
+use crate::cases::{add, add_said, new_store, new_store_with, opened, opening, three_adds};
+use crate::print::{Answer, Row, done};
+use block::Block;
+use float_bits::word_of_float;
+use std::{fmt, io};
+use store_definitions::{Item, Shape};
+use terms::{FloatBits, LabelIndex, PointIndex};
 
 // The words of −0.0 and of two NaNs.
-const MINUS_ZERO: u32 = 0x8000_0000;
+const MINUS_ZERO: FloatBits = 0x8000_0000;
 
-const NAN: u32 = 0x7fc0_0000;
+const NAN: FloatBits = 0x7fc0_0000;
 
-const OTHER_NAN: u32 = 0x7fc0_0001;
+const OTHER_NAN: FloatBits = 0x7fc0_0001;
 
-fn compared(rt: &impl Print, b: Block, i: usize, point: &[u32]) -> io::Result<()> {
-    equality(rt, equal_point(b, i, point))?;
-    text(rt, b"\n")
-}
-
-// A line of a comparison with a whole row.
-fn compared_four(
+// A comparison with a row under its name.
+fn compare_said(
     rt: &impl Print,
-    b: Block,
-    i: usize,
-    x: usize,
-    y: usize,
-    z: usize,
-    w: usize,
+    block: &Block,
+    index: usize,
+    said: &impl fmt::Display,
+    row: &[FloatBits],
 ) -> io::Result<()> {
-    let point = [word(x), word(y), word(z), word(w)];
-    text(rt, b"  is_equal ")?;
-    number(rt, i)?;
-    text(rt, b", ")?;
-    row(rt, point)?;
-    text(rt, b": ")?;
-    compared(rt, b, i, &point[..])
+    let answer = Answer(block.is_equal(PointIndex(index), row));
+    println!(rt; "  is_equal {index}, {said}: {answer}")
 }
 
-// The sum of two rows.
-fn summed(rt: &impl Print, b: Block, i: usize, v: usize, j: usize, w: usize) -> io::Result<()> {
-    let items = [[i, v], [j, w]];
-    text(rt, b"  point_sum ")?;
-    number(rt, i)?;
-    text(rt, b" x ")?;
-    number(rt, v)?;
-    text(rt, b", ")?;
-    number(rt, j)?;
-    text(rt, b" x ")?;
-    number(rt, w)?;
-    text(rt, b": ")?;
-    let r = sum_rows(b, &items[..]);
-    let d = r.answer;
-    done(rt, d)?;
-    text(rt, b", ")?;
-    let given = r.row;
-    row(rt, given)?;
-    text(rt, b"\n")
+fn compare(rt: &impl Print, block: &Block, index: usize, floats: [f32; 4]) -> io::Result<()> {
+    let row = Row::of(floats);
+    compare_said(rt, block, index, &row, &row.0)
+}
+
+// The sum of two rows, each an index with a weight; 7 stands where nothing was written.
+fn sum(rt: &impl Print, block: &Block, items: [(usize, usize); 2]) -> io::Result<()> {
+    let [(i, v), (j, w)] = items;
+    let mut sums = [7.0; 4];
+    let answer = done(block.point_sum(
+        &items.map(|(index, weight)| Item {
+            index: PointIndex(index),
+            weight,
+        }),
+        &mut sums,
+    ));
+    let row = Row::of(sums);
+    println!(rt; "  point_sum {i} x {v}, {j} x {w}: {answer}, {row}")
 }
 
 // A sum reads rows as they are stored; a comparison turns them.
 pub fn rows_read(rt: &impl Print) -> io::Result<()> {
-    text(rt, b"is_equal and point_sum, rotating\n")?;
-    let b = add_two(
-        rt,
-        add_two(rt, add_two(rt, opened(rt, true, true, 10, 5)?, 1, 2)?, 3, 4)?,
-        5,
-        6,
-    )?;
-    compared_four(rt, b, 1, 5, 6, 3, 4)?;
-    compared_four(rt, b, 1, 3, 4, 5, 6)?;
-    compared_four(rt, b, 2, 5, 6, 3, 4)?;
-    summed(rt, b, 0, 1, 1, 1)?;
-    summed(rt, b, 0, 3, 1, 0)?;
-    summed(rt, b, 0, 16777216, 1, 16777217)?;
-    summed(rt, b, 0, 16777217, 2, 1)?;
-    summed(rt, b, 2, 16777217, 0, 1)
-}
-
-// An add of two words, in a store of dimensions 2 a whole row.
-fn add_words(rt: &impl Print, b: Block, point: [u32; 2], said: &[u8]) -> io::Result<Block> {
-    let r = add_row(b, &point[..], 0);
-    text(rt, b"  add ")?;
-    text(rt, said)?;
-    text(rt, b": ")?;
-    let a = r.answer;
-    added(rt, a)?;
-    let after = r.block;
-    free(rt, after.store.start_free_region)?;
-    Ok(after)
+    println!(rt; "is_equal and point_sum, rotating")?;
+    let mut block = opened(rt, true, true, 10, 5)?;
+    three_adds(rt, &mut block)?;
+    compare(rt, &block, 1, [5.0, 6.0, 3.0, 4.0])?;
+    compare(rt, &block, 1, [3.0, 4.0, 5.0, 6.0])?;
+    compare(rt, &block, 2, [5.0, 6.0, 3.0, 4.0])?;
+    sum(rt, &block, [(0, 1), (1, 1)])?;
+    sum(rt, &block, [(0, 3), (1, 0)])?;
+    sum(rt, &block, [(0, 16777216), (1, 16777217)])?;
+    sum(rt, &block, [(0, 16777217), (2, 1)])?;
+    sum(rt, &block, [(2, 16777217), (0, 1)])
 }
 
 // Equality is that of the 32 bits: −0.0 is not 0.0, and a NaN equals a NaN of the same bits.
 pub fn zeros_and_nans(rt: &impl Print) -> io::Result<()> {
-    text(rt, b"is_equal: zeros, NaNs and lengths\n")?;
-    let b = add_two(
-        rt,
-        add_two(rt, opened(rt, true, false, 10, 5)?, 0, 1)?,
-        2,
-        3,
-    )?;
-    let zero = [MINUS_ZERO, word(1), word(2), word(3)];
-    text(rt, b"  is_equal 0, -0 1 2 3: ")?;
-    compared(rt, b, 0, &zero[..])?;
-    let c = add_words(rt, b, [NAN, word(5)], b"NaN 5")?;
-    let nan = [word(2), word(3), NAN, word(5)];
-    text(rt, b"  is_equal 1, 2 3 NaN 5: ")?;
-    compared(rt, c, 1, &nan[..])?;
-    let other = [word(2), word(3), OTHER_NAN, word(5)];
-    text(rt, b"  is_equal 1, 2 3 NaN of other bits 5: ")?;
-    compared(rt, c, 1, &other[..])?;
-    text(rt, b"  is_equal 1, three floats: ")?;
-    compared(rt, c, 1, &nan[..3])?;
-    text(rt, b"  is_equal 2, three floats: ")?;
-    compared(rt, c, 2, &nan[..3])
+    println!(rt; "is_equal: zeros, NaNs and lengths")?;
+    let mut block = opened(rt, true, false, 10, 5)?;
+    add(rt, &mut block, [0.0, 1.0])?;
+    add(rt, &mut block, [2.0, 3.0])?;
+    let zero = [
+        MINUS_ZERO,
+        word_of_float(1.0),
+        word_of_float(2.0),
+        word_of_float(3.0),
+    ];
+    compare_said(rt, &block, 0, &"-0 1 2 3", &zero)?;
+    add_said(rt, &mut block, &"NaN 5", &[NAN, word_of_float(5.0)], 0)?;
+    let nan = [
+        word_of_float(2.0),
+        word_of_float(3.0),
+        NAN,
+        word_of_float(5.0),
+    ];
+    compare_said(rt, &block, 1, &"2 3 NaN 5", &nan)?;
+    let other = [
+        word_of_float(2.0),
+        word_of_float(3.0),
+        OTHER_NAN,
+        word_of_float(5.0),
+    ];
+    compare_said(rt, &block, 1, &"2 3 NaN of other bits 5", &other)?;
+    compare_said(rt, &block, 1, &"three floats", &nan[..3])?;
+    compare_said(rt, &block, 2, &"three floats", &nan[..3])
 }
 
 // The second row is laid whole for its zero's sign alone; the third joins over a NaN, which the fourth's is not.
 pub fn joined_by_bits(rt: &impl Print) -> io::Result<()> {
-    text(rt, b"overlap: zeros and NaNs\n")?;
-    let b = new_store(
+    println!(rt; "overlap: zeros and NaNs")?;
+    let mut block = new_store(
         rt,
         Shape {
             dimensions: 2,
@@ -130,68 +108,68 @@ pub fn joined_by_bits(rt: &impl Print) -> io::Result<()> {
             store_labels: false,
         },
     )?;
-    let c = add_words(rt, b, [word(1), word(0)], b"1 0")?;
-    let d = add_words(rt, c, [MINUS_ZERO, NAN], b"-0 NaN")?;
-    let e = add_words(rt, d, [NAN, NAN], b"NaN NaN")?;
-    add_words(rt, e, [OTHER_NAN, word(2)], b"NaN of other bits 2")?;
+    add_said(
+        rt,
+        &mut block,
+        &"1 0",
+        &[word_of_float(1.0), word_of_float(0.0)],
+        0,
+    )?;
+    add_said(rt, &mut block, &"-0 NaN", &[MINUS_ZERO, NAN], 0)?;
+    add_said(rt, &mut block, &"NaN NaN", &[NAN, NAN], 0)?;
+    add_said(
+        rt,
+        &mut block,
+        &"NaN of other bits 2",
+        &[OTHER_NAN, word_of_float(2.0)],
+        0,
+    )
+}
+
+fn add_with_code(rt: &impl Print, block: &mut Block, code: usize) -> io::Result<()> {
+    let row = Row::of([1.0, 2.0]);
+    add_said(
+        rt,
+        block,
+        &format_args!("{row} with code {code}"),
+        &row.0,
+        code,
+    )
+}
+
+const THREE_LABELLED: Shape = Shape {
+    dimensions: 2,
+    shingle_size: 1,
+    capacity: 3,
+    initial_capacity: 3,
+    internal_shingling: false,
+    internal_rotation: false,
+    store_labels: true,
+};
+
+fn read_label(rt: &impl Print, block: &Block, index: usize) -> io::Result<()> {
+    let code = Answer(block.label(LabelIndex(index)));
+    let class = Answer(block.attribute(LabelIndex(index)));
+    let mut floats = [7.0; 10];
+    let answer = done(block.attribute_vec(LabelIndex(index), &mut floats));
+    let vector = Row::of(floats);
+    println!(rt; "  label {index}: {code}; attribute: {class}; attribute_vec: {answer}, {vector}")
+}
+
+fn read_three_labels(rt: &impl Print, block: &Block) -> io::Result<()> {
+    for index in 0..3 {
+        read_label(rt, block, index)?;
+    }
     Ok(())
 }
 
-fn add_with_code(rt: &impl Print, b: Block, code: usize) -> io::Result<Block> {
-    let point = [word(1), word(2)];
-    let r = add_row(b, &point[..], code);
-    text(rt, b"  add 1 2 with code ")?;
-    number(rt, code)?;
-    text(rt, b": ")?;
-    let a = r.answer;
-    added(rt, a)?;
-    let after = r.block;
-    free(rt, after.store.start_free_region)?;
-    Ok(after)
-}
-
-fn three_labelled() -> Shape {
-    Shape {
-        dimensions: 2,
-        shingle_size: 1,
-        capacity: 3,
-        initial_capacity: 3,
-        internal_shingling: false,
-        internal_rotation: false,
-        store_labels: true,
-    }
-}
-
-// A store with two labels: codes 23 and 5, of the classes 9 and 2.
-fn labelled(rt: &impl Print) -> io::Result<Block> {
-    let b = new_store(rt, three_labelled())?;
-    add_with_code(rt, add_with_code(rt, b, 23)?, 5)
-}
-
-fn label_read(rt: &impl Print, b: Block, i: usize) -> io::Result<()> {
-    text(rt, b"  label ")?;
-    number(rt, i)?;
-    text(rt, b": ")?;
-    answer(rt, code_of(b, i))?;
-    text(rt, b"; attribute: ")?;
-    answer(rt, class_of(b, i))?;
-    text(rt, b"; attribute_vec: ")?;
-    let r = vector_of(b, i);
-    let d = r.answer;
-    done(rt, d)?;
-    text(rt, b",")?;
-    let given = r.floats;
-    vector(rt, &given[..])?;
-    text(rt, b"\n")
-}
-
-// The vector's 1.0 stands at the slot, not at the class.
+// Codes 23 and 5, of the classes 9 and 2: the vector's 1.0 stands at the slot, not at the class.
 pub fn labels_read(rt: &impl Print) -> io::Result<()> {
-    text(rt, b"label, attribute and attribute_vec\n")?;
-    let b = labelled(rt)?;
-    label_read(rt, b, 0)?;
-    label_read(rt, b, 1)?;
-    label_read(rt, b, 2)
+    println!(rt; "label, attribute and attribute_vec")?;
+    let mut block = new_store(rt, THREE_LABELLED)?;
+    add_with_code(rt, &mut block, 23)?;
+    add_with_code(rt, &mut block, 5)?;
+    read_three_labels(rt, &block)
 }
 
 // Code 0 has class 2, code 1 class 1, every other code class 0.
@@ -200,14 +178,14 @@ const FALLING: [u8; 216] =
 
 // The classes are those of the loaded table, which fall; one line less is no table.
 pub fn loaded_classes(rt: &impl Print) -> io::Result<()> {
-    text(rt, b"attribute by a loaded table whose classes fall\n")?;
+    println!(rt; "attribute by a loaded table whose classes fall")?;
     let falling = FALLING;
-    let b = new_store_with(rt, three_labelled(), &falling[..])?;
-    let c = add_with_code(rt, add_with_code(rt, add_with_code(rt, b, 0)?, 1)?, 2)?;
-    label_read(rt, c, 0)?;
-    label_read(rt, c, 1)?;
-    label_read(rt, c, 2)?;
-    text(rt, b"its text with one line less\n")?;
-    new_store_with(rt, three_labelled(), &falling[9..])?;
-    Ok(())
+    let mut block = new_store_with(rt, THREE_LABELLED, &falling)?;
+    for code in 0..3 {
+        add_with_code(rt, &mut block, code)?;
+    }
+    read_three_labels(rt, &block)?;
+    println!(rt; "its text with one line less")?;
+    let refused = Block::open_with_classes(THREE_LABELLED, &falling[9..]);
+    opening(rt, THREE_LABELLED, refused.map(|_| ()))
 }

@@ -11,4 +11,4 @@ loop-code-preserved c =
     let l = c.loop-code in
     let a = c.args in
     let sized : length a.classes ≡ 24 = search rules in
-    (omega arith, rw l.invariant.1 (class_written a.at a.words.now a.classes l.code (omega (arith, c.loop-code-test.true))))
+    rw l.invariant (class_written a.at a.words.now a.classes l.code (omega (arith, c.loop-code-test.true)))

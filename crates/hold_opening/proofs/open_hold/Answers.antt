@@ -1,24 +1,31 @@
 -- The decision, and then the store's opening.
-use Prim.Native.Nat.{ℕ}
-use mathlib.Core.Path.{sym, ap, ◌∙◌}
-use Rattle.terms.specs.Refusals.{number}
+use Rattle.std.proofs.Common.{rules, sym, ap, ◌∙◌}
 use Rattle.interval_store_manager.specs.Calls.{decision_means}
-use Rattle.store_definitions.specs.Memory.{Memory}
+use Rattle.store_definitions.specs.Lent.{held}
 use Rattle.hold_definitions.specs.Lent.{hold_held}
-use Rattle.hold_definitions.specs.Memory.{HoldMemory}
-use Rattle.hold_opening.specs.Openings.{open_refused, open_done}
+use Rattle.hold_opening.specs.Openings.{open_refused, open_done, open_failed}
 use Rattle.hold_opening.proofs.open_hold.Goals as goal
 
-pub returns-in-Refuse : goal.returns-in-Refuse
-returns-in-Refuse c =
+pub returns-in_err-open_decision : goal.returns-in_err-open_decision
+returns-in_err-open_decision c =
     let a = c.args in
-    let m : HoldMemory ℕ = hold_held a.store.now a.last_known_shingle.now a.reference_count.now a.location.now a.index_starts.now a.index_ends.now a.labels.now a.label_attributes.now a.label_count.now a.label_starts.now a.label_ends.now a.attributes.now a.attribute_count.now a.attribute_starts.now a.attribute_ends.now a.held_indices.now a.held_labels.now in
-    rw c.no_hold-none.ensures (open_refused a.shape a.width a.class_text.now m (number c.in-Refuse.why) (sym c.open_decision-d.ensures ∙ ap decision_means c.in-Refuse.is))
+    let m = hold_held a.store.now a.last_known_shingle.now a.reference_count.now a.location.now a.index_starts.now a.index_ends.now a.labels.now a.label_attributes.now a.label_count.now a.label_starts.now a.label_ends.now a.attributes.now a.attribute_count.now a.attribute_starts.now a.attribute_ends.now a.held_indices.now a.held_labels.now in
+    let refused = open_refused a.shape a.width a.class_text.now m _ (sym c.open_decision.ensures ∙ ap decision_means c.in_err-open_decision.was) in
+    search (rules, refused)
 
-pub returns-in-Go : goal.returns-in-Go
-returns-in-Go c =
+pub returns-in_err-opened : goal.returns-in_err-opened
+returns-in_err-opened c =
     let a = c.args in
-    let m : HoldMemory ℕ = hold_held a.store.now a.last_known_shingle.now a.reference_count.now a.location.now a.index_starts.now a.index_ends.now a.labels.now a.label_attributes.now a.label_count.now a.label_starts.now a.label_ends.now a.attributes.now a.attribute_count.now a.attribute_starts.now a.attribute_ends.now a.held_indices.now a.held_labels.now in
-    let o = c.open-opened in
-    let k : Memory ℕ = record { store = o.new.store; last_known_shingle = o.new.last_known_shingle; reference_count = o.new.reference_count; location = o.new.location; index_starts = o.new.index_starts; index_ends = o.new.index_ends; labels = o.new.labels; label_attributes = o.new.label_attributes; label_count = o.new.label_count; label_starts = o.new.label_starts; label_ends = o.new.label_ends; attributes = o.new.attributes; attribute_count = o.new.attribute_count; attribute_starts = o.new.attribute_starts; attribute_ends = o.new.attribute_ends } in
-    open_done a.shape a.width a.class_text.now m (sym c.open_decision-d.ensures ∙ ap decision_means c.in-Go.is) o.result k o.ensures c.opened_hold.result c.opened_hold.ensures
+    let m = hold_held a.store.now a.last_known_shingle.now a.reference_count.now a.location.now a.index_starts.now a.index_ends.now a.labels.now a.label_attributes.now a.label_count.now a.label_starts.now a.label_ends.now a.attributes.now a.attribute_count.now a.attribute_starts.now a.attribute_ends.now a.held_indices.now a.held_labels.now in
+    let n = c.open.new in
+    let k = held n.store n.last_known_shingle n.reference_count n.location n.index_starts n.index_ends n.labels n.label_attributes n.label_count n.label_starts n.label_ends n.attributes n.attribute_count n.attribute_starts n.attribute_ends in
+    let refused = open_failed a.shape a.width a.class_text.now m (sym c.open_decision.ensures ∙ ap decision_means c.in_ok-open_decision.was) _ k c.open.ensures _ c.in_err-opened.was in
+    search (rules, refused)
+
+pub returns : goal.returns
+returns c =
+    let a = c.args in
+    let m = hold_held a.store.now a.last_known_shingle.now a.reference_count.now a.location.now a.index_starts.now a.index_ends.now a.labels.now a.label_attributes.now a.label_count.now a.label_starts.now a.label_ends.now a.attributes.now a.attribute_count.now a.attribute_starts.now a.attribute_ends.now a.held_indices.now a.held_labels.now in
+    let n = c.open.new in
+    let k = held n.store n.last_known_shingle n.reference_count n.location n.index_starts n.index_ends n.labels n.label_attributes n.label_count n.label_starts n.label_ends n.attributes n.attribute_count n.attribute_starts n.attribute_ends in
+    open_done a.shape a.width a.class_text.now m (sym c.open_decision.ensures ∙ ap decision_means c.in_ok-open_decision.was) _ k c.open.ensures _ c.in_ok-opened.was

@@ -1,12 +1,22 @@
 -- Each table is cleared, and each manager opened.
+use Rattle.std.proofs.Common.{◌≡◌, ◌++◌, drop, rules}
 use Rattle.labels.specs.Forms.{label_half}
+use Rattle.labels.specs.Opening.{cleared}
 use Rattle.label_opening.specs.OpeningLaws.{table_is, opened_is}
 use Rattle.label_opening.proofs.open_labels.Goals as goal
 
 pub returns : goal.returns
 returns c =
-    let l = label_half (record { label_manager = c.open_manager-label_manager.result; attribute_manager = c.open_manager-attribute_manager.result }) c.args.labels.now c.args.label_attributes.now c.args.label_count.now c.args.label_starts.now c.args.label_ends.now c.args.attributes.now c.args.attribute_count.now c.args.attribute_starts.now c.args.attribute_ends.now in
-    opened_is c.args.capacity l _ _ _ _ _ c.clear_u8.ensures c.clear_u16.ensures
-    (table_is c.args.capacity l.label_table c.open_manager-label_manager.result c.clear_u16-2.new.xs c.open_manager-label_manager.new.starts c.open_manager-label_manager.new.ends c.requires.label_manager_lem c.open_manager-label_manager.ensures c.clear_u16-2.ensures)
-    c.clear_u8-2.ensures
-    (table_is c.args.capacity l.attribute_table c.open_manager-attribute_manager.result c.clear_u32.new.xs c.open_manager-attribute_manager.new.starts c.open_manager-attribute_manager.new.ends c.requires.slot_manager c.open_manager-attribute_manager.ensures c.clear_u32.ensures)
+    let a = c.args in
+    let first = c.open_manager-label_manager in
+    let second = c.open_manager-attribute_manager in
+    let l = label_half (record { label_manager = first.result; attribute_manager = second.result }) a.labels.now a.label_attributes.now a.label_count.now a.label_starts.now a.label_ends.now a.attributes.now a.attribute_count.now a.attribute_starts.now a.attribute_ends.now in
+    let labels : c.fill.new.self ++ drop a.capacity a.labels.now ≡ cleared a.capacity a.labels.now = search rules in
+    let slots : c.fill-2.new.self ++ drop a.capacity a.label_attributes.now ≡ cleared a.capacity a.label_attributes.now = search rules in
+    let counts : c.fill-3.new.self ++ drop a.capacity a.label_count.now ≡ cleared a.capacity a.label_count.now = search rules in
+    let classes : c.fill-4.new.self ++ drop a.capacity a.attributes.now ≡ cleared a.capacity a.attributes.now = search rules in
+    let slot_counts : c.fill-5.new.self ++ drop a.capacity a.attribute_count.now ≡ cleared a.capacity a.attribute_count.now = search rules in
+    opened_is a.capacity l _ _ _ _ _ labels slots
+    (table_is a.capacity l.label_table first.result _ first.new.starts first.new.ends c.requires.label_manager_lem first.ensures counts)
+    classes
+    (table_is a.capacity l.attribute_table second.result _ second.new.starts second.new.ends c.requires.slot_manager second.ensures slot_counts)

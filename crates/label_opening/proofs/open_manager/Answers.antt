@@ -2,5 +2,5 @@
 use Rattle.label_opening.specs.OpeningLaws.{not_refused}
 use Rattle.label_opening.proofs.open_manager.Goals as goal
 
-pub returns-in-Refused : goal.returns-in-Refused
-returns-in-Refused c = not_refused c.args.capacity c.args.starts.now c.args.ends.now _ _ _ c.requires (rw c.in-Refused.is at c.new-answer.ensures)
+pub returns-in-Err : goal.returns-in-Err
+returns-in-Err c = not_refused c.args.capacity c.args.starts.now c.args.ends.now _ _ _ c.requires (rw c.in-Err.is at c.new-answer.ensures)

@@ -14,7 +14,7 @@ pub returns : goal.returns
 returns c =
     let a = c.args in
     let m : Memory ℕ = held a.store.now a.last_known_shingle.now a.reference_count.now a.location.now a.index_starts.now a.index_ends.now a.labels.now a.label_attributes.now a.label_count.now a.label_starts.now a.label_ends.now a.attributes.now a.attribute_count.now a.attribute_starts.now a.attribute_ends.now in
-    let p = point_probes a.p m in
+    let p = point_probes a.p.now m in
     c.set_words.ensures
     ∙ ap₂ (λ (ks ws : List ℕ). set_kinds_spec words_equal 0 p ks ws a.label) c.kinds_of-kinds.ensures.0 c.words_of-words.ensures
     ∙ floats_set words_equal p a.readings a.label c.kinds_of-kinds.ensures.1

@@ -1,40 +1,44 @@
 -- The check, the decision, and then the set.
-use Prim.Native.Nat.{ℕ}
+use Rattle.std.proofs.Common.{rules, sym, ap, ◌∙◌}
 use Rattle.float_bits.specs.Words.{words_equal}
-use Rattle.store_definitions.specs.Memory.{Memory}
+use Rattle.interval_store_manager.specs.Calls.{decision_means}
 use Rattle.store_definitions.specs.Lent.{held}
 use Rattle.probes_definitions.specs.Memory.{point_probes}
-use mathlib.Core.Path.{sym, ap, ◌∙◌}
-use Rattle.terms.specs.Refusals.{number}
-use Rattle.interval_store_manager.specs.Calls.{decision_means}
+use Rattle.probes_check.specs.Checked.{probes_passed, probes_failed}
 use Rattle.probes.specs.Sets.{words_ill, words_refused, words_go, eight_each}
 use Rattle.probes.proofs.set_words.Goals as goal
 
-pub returns-then-not-ok : goal.returns-then-not-ok
-returns-then-not-ok c =
+pub returns-in_err-figures : goal.returns-in_err-figures
+returns-in_err-figures c =
     let a = c.args in
-    let m : Memory ℕ = held a.store.now a.last_known_shingle.now a.reference_count.now a.location.now a.index_starts.now a.index_ends.now a.labels.now a.label_attributes.now a.label_count.now a.label_starts.now a.label_ends.now a.attributes.now a.attribute_count.now a.attribute_starts.now a.attribute_ends.now in
-    let p = point_probes a.p m in
-    words_ill words_equal 0 p a.kinds.now a.words.now a.label (sym c.check_probes-checked.ensures.0 ∙ c.if-not-ok.true)
+    let m = held a.store.now a.last_known_shingle.now a.reference_count.now a.location.now a.index_starts.now a.index_ends.now a.labels.now a.label_attributes.now a.label_count.now a.label_starts.now a.label_ends.now a.attributes.now a.attribute_count.now a.attribute_starts.now a.attribute_ends.now in
+    let p = point_probes a.p.now m in
+    let ill = probes_failed a.p.now m c.new-tables.result c.check_probes.result _ (c.new-tables.ensures a.store.now a.last_known_shingle.now) c.check_probes.ensures _ (sym c.ok_or.ensures.value ∙ c.in_err-figures.was) in
+    let refused = words_ill words_equal 0 p a.kinds.now a.words.now a.label ill.0 in
+    search (rules, refused, ill.1)
+
+pub returns-in_err-set_decision : goal.returns-in_err-set_decision
+returns-in_err-set_decision c =
+    let a = c.args in
+    let m = held a.store.now a.last_known_shingle.now a.reference_count.now a.location.now a.index_starts.now a.index_ends.now a.labels.now a.label_attributes.now a.label_count.now a.label_starts.now a.label_ends.now a.attributes.now a.attribute_count.now a.attribute_starts.now a.attribute_ends.now in
+    let p = point_probes a.p.now m in
+    let well = probes_passed a.p.now m c.new-tables.result c.check_probes.result _ (c.new-tables.ensures a.store.now a.last_known_shingle.now) c.check_probes.ensures _ (sym c.ok_or.ensures.value ∙ c.in_ok-figures.was) in
+    let refused = words_refused words_equal 0 p a.kinds.now a.words.now a.label well.0 _ (sym c.set_decision.ensures ∙ ap decision_means c.in_err-set_decision.was) in
+    search (rules, refused)
 
 pub set_filled-requires : goal.set_filled-requires
 set_filled-requires c =
     let a = c.args in
-    let m : Memory ℕ = held a.store.now a.last_known_shingle.now a.reference_count.now a.location.now a.index_starts.now a.index_ends.now a.labels.now a.label_attributes.now a.label_count.now a.label_starts.now a.label_ends.now a.attributes.now a.attribute_count.now a.attribute_starts.now a.attribute_ends.now in
-    let p = point_probes a.p m in
-    let eight = eight_each words_equal 0 p a.kinds.now a.words.now a.label (sym c.set_decision-d.ensures ∙ ap decision_means c.in-Go.is) in
-    (sym c.check_probes-checked.ensures.0 ∙ c.if-not-ok.false, (eight.0, (eight.1, c.check_probes-checked.ensures.1 (c.if-not-ok.false))))
+    let m = held a.store.now a.last_known_shingle.now a.reference_count.now a.location.now a.index_starts.now a.index_ends.now a.labels.now a.label_attributes.now a.label_count.now a.label_starts.now a.label_ends.now a.attributes.now a.attribute_count.now a.attribute_starts.now a.attribute_ends.now in
+    let p = point_probes a.p.now m in
+    let well = probes_passed a.p.now m c.new-tables.result c.check_probes.result _ (c.new-tables.ensures a.store.now a.last_known_shingle.now) c.check_probes.ensures _ (sym c.ok_or.ensures.value ∙ c.in_ok-figures.was) in
+    let eight = eight_each words_equal 0 p a.kinds.now a.words.now a.label (sym c.set_decision.ensures ∙ ap decision_means c.in_ok-set_decision.was) in
+    (well.0, (eight.0, (eight.1, well.1)))
 
-pub returns-in-Refuse : goal.returns-in-Refuse
-returns-in-Refuse c =
+pub returns : goal.returns
+returns c =
     let a = c.args in
-    let m : Memory ℕ = held a.store.now a.last_known_shingle.now a.reference_count.now a.location.now a.index_starts.now a.index_ends.now a.labels.now a.label_attributes.now a.label_count.now a.label_starts.now a.label_ends.now a.attributes.now a.attribute_count.now a.attribute_starts.now a.attribute_ends.now in
-    let p = point_probes a.p m in
-    words_refused words_equal 0 p a.kinds.now a.words.now a.label (sym c.check_probes-checked.ensures.0 ∙ c.if-not-ok.false) (number c.in-Refuse.why) (sym c.set_decision-d.ensures ∙ ap decision_means c.in-Refuse.is)
-
-pub returns-in-Go : goal.returns-in-Go
-returns-in-Go c =
-    let a = c.args in
-    let m : Memory ℕ = held a.store.now a.last_known_shingle.now a.reference_count.now a.location.now a.index_starts.now a.index_ends.now a.labels.now a.label_attributes.now a.label_count.now a.label_starts.now a.label_ends.now a.attributes.now a.attribute_count.now a.attribute_starts.now a.attribute_ends.now in
-    let p = point_probes a.p m in
-    c.set_filled.ensures ∙ words_go words_equal 0 p a.kinds.now a.words.now a.label (sym c.check_probes-checked.ensures.0 ∙ c.if-not-ok.false) (sym c.set_decision-d.ensures ∙ ap decision_means c.in-Go.is)
+    let m = held a.store.now a.last_known_shingle.now a.reference_count.now a.location.now a.index_starts.now a.index_ends.now a.labels.now a.label_attributes.now a.label_count.now a.label_starts.now a.label_ends.now a.attributes.now a.attribute_count.now a.attribute_starts.now a.attribute_ends.now in
+    let p = point_probes a.p.now m in
+    let well = probes_passed a.p.now m c.new-tables.result c.check_probes.result _ (c.new-tables.ensures a.store.now a.last_known_shingle.now) c.check_probes.ensures _ (sym c.ok_or.ensures.value ∙ c.in_ok-figures.was) in
+    c.set_filled.ensures ∙ words_go words_equal 0 p a.kinds.now a.words.now a.label well.0 (sym c.set_decision.ensures ∙ ap decision_means c.in_ok-set_decision.was)

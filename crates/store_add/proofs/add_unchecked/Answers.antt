@@ -1,30 +1,53 @@
 -- Decided, and then carried out.
-use Prim.Native.Nat.{ℕ}
-use mathlib.Core.Path.{sym, ◌∙◌}
-use Rattle.store_definitions.specs.Memory.{Memory, point_store}
-use Rattle.store_definitions.specs.Answers.{added_means, outcome}
-use Rattle.store_add.specs.Answering.{changed}
-use Rattle.store_add.specs.Deciding.{decision_asks, asked_well}
-use Rattle.store_add.proofs.ActLaws.{added}
+use native.Mathlib.Omega.{arith}
+use Rattle.std.proofs.Common.{rules, ◌∙◌, ap}
+use Rattle.std.specs.Prelude.{Ok}
+use Rattle.store_definitions.specs.Lent.{held}
+use Rattle.store_definitions.specs.Memory.{point_store}
+use Rattle.store_add.specs.Deciding.{decision_asks}
+use Rattle.store_add.proofs.ActLaws.{waits_ready, decided_wait, decided_keep, acted_refuse, acted_wait, acted_ok, acted_err}
 use Rattle.store_add.proofs.add_unchecked.Goals as goal
 
-pub add_decision-d-requires : goal.add_decision-d-requires
-add_decision-d-requires c = let a = c.args in
-    let m : Memory ℕ = record { store = a.store.now; last_known_shingle = a.last_known_shingle.now; reference_count = a.reference_count.now; location = a.location.now; index_starts = a.index_starts.now; index_ends = a.index_ends.now; labels = a.labels.now; label_attributes = a.label_attributes.now; label_count = a.label_count.now; label_starts = a.label_starts.now; label_ends = a.label_ends.now; attributes = a.attributes.now; attribute_count = a.attribute_count.now; attribute_starts = a.attribute_starts.now; attribute_ends = a.attribute_ends.now } in
-    let p = point_store a.s m in
+pub add_decision-requires : goal.add_decision-requires
+add_decision-requires c = let a = c.args in
+    let p = point_store a.s.now (held a.store.now a.last_known_shingle.now a.reference_count.now a.location.now a.index_starts.now a.index_ends.now a.labels.now a.label_attributes.now a.label_count.now a.label_starts.now a.label_ends.now a.attributes.now a.attribute_count.now a.attribute_starts.now a.attribute_ends.now) in
     decision_asks p c.requires.0
 
-pub act-requires : goal.act-requires
-act-requires c = let a = c.args in
-    let m : Memory ℕ = record { store = a.store.now; last_known_shingle = a.last_known_shingle.now; reference_count = a.reference_count.now; location = a.location.now; index_starts = a.index_starts.now; index_ends = a.index_ends.now; labels = a.labels.now; label_attributes = a.label_attributes.now; label_count = a.label_count.now; label_starts = a.label_starts.now; label_ends = a.label_ends.now; attributes = a.attributes.now; attribute_count = a.attribute_count.now; attribute_starts = a.attribute_starts.now; attribute_ends = a.attribute_ends.now } in
-    let p = point_store a.s m in
-    (c.add_decision-d.ensures ∙ sym (asked_well p a.point.now a.label c.requires.0), c.requires.1)
+pub returns-in_err-step : goal.returns-in_err-step
+returns-in_err-step c = let a = c.args in
+    let p = point_store a.s.now (held a.store.now a.last_known_shingle.now a.reference_count.now a.location.now a.index_starts.now a.index_ends.now a.labels.now a.label_attributes.now a.label_count.now a.label_starts.now a.label_ends.now a.attributes.now a.attribute_count.now a.attribute_starts.now a.attribute_ends.now) in
+    let refused = acted_refuse p a.point.now a.label c.requires.0 _ c.add_decision.ensures _ c.in_err-step.was in
+    search (rules, refused)
 
-pub returns : goal.returns
-returns c = let a = c.args in
-    let m : Memory ℕ = record { store = a.store.now; last_known_shingle = a.last_known_shingle.now; reference_count = a.reference_count.now; location = a.location.now; index_starts = a.index_starts.now; index_ends = a.index_ends.now; labels = a.labels.now; label_attributes = a.label_attributes.now; label_count = a.label_count.now; label_starts = a.label_starts.now; label_ends = a.label_ends.now; attributes = a.attributes.now; attribute_count = a.attribute_count.now; attribute_starts = a.attribute_starts.now; attribute_ends = a.attribute_ends.now } in
-    let p = point_store a.s m in
-    let ac = c.act in
-    let de = c.add_decision-d in
-    let m' : Memory ℕ = record { store = ac.new.store; last_known_shingle = ac.new.last_known_shingle; reference_count = ac.new.reference_count; location = ac.new.location; index_starts = ac.new.index_starts; index_ends = ac.new.index_ends; labels = ac.new.labels; label_attributes = ac.new.label_attributes; label_count = ac.new.label_count; label_starts = ac.new.label_starts; label_ends = a.label_ends.now; attributes = ac.new.attributes; attribute_count = ac.new.attribute_count; attribute_starts = ac.new.attribute_starts; attribute_ends = a.attribute_ends.now } in
-    added de.result p a.point.now a.label (outcome (added_means ac.result.answer) (point_store (changed a.s ac.result) m')) (de.ensures ∙ sym (asked_well p a.point.now a.label c.requires.0)) ac.ensures
+pub shift_window-requires : goal.shift_window-requires
+shift_window-requires c = let a = c.args in
+    let p = point_store a.s.now (held a.store.now a.last_known_shingle.now a.reference_count.now a.location.now a.index_starts.now a.index_ends.now a.labels.now a.label_attributes.now a.label_count.now a.label_starts.now a.label_ends.now a.attributes.now a.attribute_count.now a.attribute_starts.now a.attribute_ends.now) in
+    (waits_ready p c.requires.0 a.point.now a.label (decided_wait p a.point.now a.label c.requires.0 _ c.add_decision.ensures (c.in_ok-step.was ∙ ap Ok c.in-Wait.is))).row
+
+pub overflow_add-s : goal.overflow_add-s
+overflow_add-s c = let a = c.args in
+    let p = point_store a.s.now (held a.store.now a.last_known_shingle.now a.reference_count.now a.location.now a.index_starts.now a.index_ends.now a.labels.now a.label_attributes.now a.label_count.now a.label_starts.now a.label_ends.now a.attributes.now a.attribute_count.now a.attribute_starts.now a.attribute_ends.now) in
+    omega (arith, (waits_ready p c.requires.0 a.point.now a.label (decided_wait p a.point.now a.label c.requires.0 _ c.add_decision.ensures (c.in_ok-step.was ∙ ap Ok c.in-Wait.is))).unfinished)
+
+pub returns-in-Wait : goal.returns-in-Wait
+returns-in-Wait c = let a = c.args in
+    let p = point_store a.s.now (held a.store.now a.last_known_shingle.now a.reference_count.now a.location.now a.index_starts.now a.index_ends.now a.labels.now a.label_attributes.now a.label_count.now a.label_starts.now a.label_ends.now a.attributes.now a.attribute_count.now a.attribute_starts.now a.attribute_ends.now) in
+    acted_wait p a.point.now a.label c.requires.0 _ c.add_decision.ensures (c.in_ok-step.was ∙ ap Ok c.in-Wait.is) c.shift_window.new.window c.shift_window.ensures
+
+pub keep-requires : goal.keep-requires
+keep-requires c = let a = c.args in
+    let p = point_store a.s.now (held a.store.now a.last_known_shingle.now a.reference_count.now a.location.now a.index_starts.now a.index_ends.now a.labels.now a.label_attributes.now a.label_count.now a.label_starts.now a.label_ends.now a.attributes.now a.attribute_count.now a.attribute_starts.now a.attribute_ends.now) in
+    (c.requires.0, (decided_keep p a.point.now a.label c.requires.0 _ c.add_decision.ensures (c.in_ok-step.was ∙ ap Ok c.in-Keep.is), c.requires.1))
+
+pub returns-in_err-kept-in-Keep : goal.returns-in_err-kept-in-Keep
+returns-in_err-kept-in-Keep c = let a = c.args in
+    let p = point_store a.s.now (held a.store.now a.last_known_shingle.now a.reference_count.now a.location.now a.index_starts.now a.index_ends.now a.labels.now a.label_attributes.now a.label_count.now a.label_starts.now a.label_ends.now a.attributes.now a.attribute_count.now a.attribute_starts.now a.attribute_ends.now) in
+    let k = c.keep.new in
+    let refused = acted_err p a.point.now a.label c.requires.0 _ c.add_decision.ensures (c.in_ok-step.was ∙ ap Ok c.in-Keep.is) _ (point_store k.s (held k.store k.last_known_shingle k.reference_count k.location k.index_starts k.index_ends k.labels k.label_attributes k.label_count k.label_starts a.label_ends.now k.attributes k.attribute_count k.attribute_starts a.attribute_ends.now)) _ c.keep.ensures c.in_err-kept-in-Keep.was in
+    search (rules, refused)
+
+pub returns-in_ok-kept-in-Keep : goal.returns-in_ok-kept-in-Keep
+returns-in_ok-kept-in-Keep c = let a = c.args in
+    let p = point_store a.s.now (held a.store.now a.last_known_shingle.now a.reference_count.now a.location.now a.index_starts.now a.index_ends.now a.labels.now a.label_attributes.now a.label_count.now a.label_starts.now a.label_ends.now a.attributes.now a.attribute_count.now a.attribute_starts.now a.attribute_ends.now) in
+    let k = c.keep.new in
+    acted_ok p a.point.now a.label c.requires.0 _ c.add_decision.ensures (c.in_ok-step.was ∙ ap Ok c.in-Keep.is) _ (point_store k.s (held k.store k.last_known_shingle k.reference_count k.location k.index_starts k.index_ends k.labels k.label_attributes k.label_count k.label_starts a.label_ends.now k.attributes k.attribute_count k.attribute_starts a.attribute_ends.now)) _ c.keep.ensures c.in_ok-kept-in-Keep.was

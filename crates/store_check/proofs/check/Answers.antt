@@ -1,25 +1,28 @@
--- Each way out is one of the laws of `CheckLaws`.
-use native.Mathlib.Omega.{arith}
-use mathlib.Core.Bool.{false≢true}
-use mathlib.Core.Path.{sym, ◌∙◌}
+-- Each way out is one of the laws of `CheckedLaws`.
+use mathlib.Core.Path.{refl, sym, ◌∙◌}
 use lib.ListN.{length, length-replicate}
 use Rattle.store_definitions.specs.Memory.{point_store}
-use Rattle.store_check.specs.Tables.{tables}
-use Rattle.store_check.specs.CheckLaws.{record_ready, record_fails, points_fail, labels_decide}
+use Rattle.store_check.specs.Tables.{tables_lent}
+use Rattle.store_check.specs.CheckLaws.{record_ready}
+use Rattle.store_check.proofs.CheckedLaws.{record_ill, points_ill, labels_ill, all_well}
 use Rattle.store_check.proofs.check.Goals as goal
 
-pub points_well-points-requires : goal.points_well-points-requires
-points_well-points-requires c = record_ready c.args.s c.args.floats c.args.window (length c.args.index_starts.now) (length c.args.index_ends.now) c.args.reference_count.now c.args.location.now (sym c.record_well.ensures ∙ c.if-record_well.true)
+pub points_well-requires : goal.points_well-requires
+points_well-requires c = record_ready c.args.s c.args.floats c.args.window (length c.args.tables.index_starts.now) (length c.args.tables.index_ends.now) c.args.tables.reference_count.now c.args.tables.location.now (sym (c.record_well.ensures ∙ rw c.lengths_of-lent.ensures.lengths refl) ∙ c.if-not-record_well.false)
 
-pub returns-then-well : goal.returns-then-well
-returns-then-well c = (
-  c.labels_well_formed-half.ensures.0
-      ∙ labels_decide (point_store c.args.s (tables c.args.floats c.args.window c.args.reference_count.now c.args.location.now c.args.index_starts.now c.args.index_ends.now c.args.labels.now c.args.label_attributes.now c.args.label_count.now c.args.label_starts.now c.args.label_ends.now c.args.attributes.now c.args.attribute_count.now c.args.attribute_starts.now c.args.attribute_ends.now)) c.args.floats c.args.window (length-replicate {A = Unit {0}} c.args.floats tt) (length-replicate {A = Unit {0}} c.args.window tt) (λ i. omega (arith, c.shared_slice_known-1.given i)) (sym c.record_well.ensures ∙ c.if-record_well.true) (sym c.points_well-points.ensures.0 ∙ c.if-well.true),
-  λ e. record { live_is = c.points_well-points.ensures.1 c.if-well.true; labels_free = λ on. c.labels_well_formed-half.ensures.1 e on },
-)
+pub returns-then-not-record_well : goal.returns-then-not-record_well
+returns-then-not-record_well c = record_ill (point_store c.args.s (tables_lent c.args.floats c.args.window c.args.tables)) c.args.floats c.args.window (length-replicate {A = Unit {0}} c.args.floats tt) (length-replicate {A = Unit {0}} c.args.window tt) c.lengths_of-lent.ensures.fit (sym (c.record_well.ensures ∙ rw c.lengths_of-lent.ensures.lengths refl) ∙ c.if-not-record_well.true)
 
-pub returns-else-well : goal.returns-else-well
-returns-else-well c = (points_fail (point_store c.args.s (tables c.args.floats c.args.window c.args.reference_count.now c.args.location.now c.args.index_starts.now c.args.index_ends.now c.args.labels.now c.args.label_attributes.now c.args.label_count.now c.args.label_starts.now c.args.label_ends.now c.args.attributes.now c.args.attribute_count.now c.args.attribute_starts.now c.args.attribute_ends.now)) c.args.floats c.args.window (length-replicate {A = Unit {0}} c.args.floats tt) (length-replicate {A = Unit {0}} c.args.window tt) (λ i. omega (arith, c.shared_slice_known-1.given i)) (sym c.record_well.ensures ∙ c.if-record_well.true) (sym c.points_well-points.ensures.0 ∙ c.if-well.false), λ e. absurd (false≢true e))
+pub returns-in_err-live : goal.returns-in_err-live
+returns-in_err-live c =
+    rw c.from_residual.ensures
+    (points_ill (point_store c.args.s (tables_lent c.args.floats c.args.window c.args.tables)) c.args.floats c.args.window (length-replicate {A = Unit {0}} c.args.floats tt) (length-replicate {A = Unit {0}} c.args.window tt) c.lengths_of-lent.ensures.fit (sym (c.record_well.ensures ∙ rw c.lengths_of-lent.ensures.lengths refl) ∙ c.if-not-record_well.false) _ (sym c.in_err-live.was ∙ c.points_well.ensures))
 
-pub returns-else-record_well : goal.returns-else-record_well
-returns-else-record_well c = (record_fails (point_store c.args.s (tables c.args.floats c.args.window c.args.reference_count.now c.args.location.now c.args.index_starts.now c.args.index_ends.now c.args.labels.now c.args.label_attributes.now c.args.label_count.now c.args.label_starts.now c.args.label_ends.now c.args.attributes.now c.args.attribute_count.now c.args.attribute_starts.now c.args.attribute_ends.now)) c.args.floats c.args.window (length-replicate {A = Unit {0}} c.args.floats tt) (length-replicate {A = Unit {0}} c.args.window tt) (λ i. omega (arith, c.shared_slice_known-1.given i)) (sym c.record_well.ensures ∙ c.if-record_well.false), λ e. absurd (false≢true e))
+pub returns-in_err-free : goal.returns-in_err-free
+returns-in_err-free c =
+    rw c.from_residual-in_err-free.ensures
+    (labels_ill (point_store c.args.s (tables_lent c.args.floats c.args.window c.args.tables)) c.args.floats c.args.window (length-replicate {A = Unit {0}} c.args.floats tt) (length-replicate {A = Unit {0}} c.args.window tt) c.lengths_of-lent.ensures.fit (sym (c.record_well.ensures ∙ rw c.lengths_of-lent.ensures.lengths refl) ∙ c.if-not-record_well.false) _ _ (sym c.in_ok-live.was ∙ c.points_well.ensures) (sym c.in_err-free.was ∙ c.labels_well_formed.ensures))
+
+pub returns : goal.returns
+returns c =
+    all_well (point_store c.args.s (tables_lent c.args.floats c.args.window c.args.tables)) c.args.floats c.args.window (length-replicate {A = Unit {0}} c.args.floats tt) (length-replicate {A = Unit {0}} c.args.window tt) c.lengths_of-lent.ensures.fit (sym (c.record_well.ensures ∙ rw c.lengths_of-lent.ensures.lengths refl) ∙ c.if-not-record_well.false) _ (sym c.in_ok-live.was ∙ c.points_well.ensures) _ (sym c.in_ok-free.was ∙ c.labels_well_formed.ensures)

@@ -1,27 +1,26 @@
--- What a turn makes of where the loop stands is said in specs/Run.antt.
-use Rattle.std.proofs.Common.{sym, subst, ◌∙◌}
+-- What the check shows is what the sum relies on.
+use Rattle.std.proofs.Common.{sym, ◌∙◌}
 use Rattle.float_bits.specs.Rows.{add_scaled}
 use Rattle.float_bits.specs.Words.{float_of, plus_zero}
-use Rattle.store_definitions.specs.Answers.{done_means}
-use Rattle.store_sum_items.specs.Run.{Standing, begins, asks, went_on}
+use Rattle.terms.specs.declared.Refusal.{Refusal}
+use Rattle.store_definitions.specs.Lent.{lent}
+use Rattle.store_definitions.specs.Memory.{point_store}
+use Rattle.store_check.specs.Checked.{check_passed}
+use Rattle.store_rows.specs.Copying.{readable}
+use Rattle.row_readings.specs.Items.{weightings_of}
+use Rattle.row_readings.specs.SumLaws.{sum_checked}
 use Rattle.store_sum_items.proofs.point_sum.Goals as goal
 
-pub loop-step-init : goal.loop-step-init
-loop-step-init c = (
-  c.first_step-step.auto.out,
-  subst (Standing add_scaled (float_of plus_zero) _ c.args.items.now c.args.out.now) (sym c.first_step-step.ensures)
-      (begins add_scaled (float_of plus_zero) _ c.args.items.now c.args.out.now),
-)
+pub point_sum_unchecked-requires : goal.point_sum_unchecked-requires
+point_sum_unchecked-requires c =
+    let a = c.args in
+    let m = lent a.store.now a.last_known_shingle.now a.tables in
+    let well = (check_passed a.s m c.check.result Refusal.IllFormed c.check.ensures _ (sym c.ok_or.ensures.value ∙ c.in_ok-ok_or.was)).0 in
+    readable (point_store a.s m) well
 
-pub next_step-step-requires : goal.next_step-step-requires
-next_step-step-requires c =
-    asks add_scaled (float_of plus_zero) _ c.args.items.now c.args.out.now c.loop-step.step.next c.loop-step-test.true
-    (done_means c.loop-step.step.answer) c.loop-step.step.adds c.loop-step.out c.loop-step.invariant.1 c.loop-step.invariant.0
-
-pub loop-step-preserved : goal.loop-step-preserved
-loop-step-preserved c = (
-  c.next_step-step.auto.out ∙ c.loop-step.invariant.0,
-  went_on add_scaled (float_of plus_zero) _ c.args.items.now c.args.out.now c.loop-step.step.next c.loop-step-test.true
-      (done_means c.loop-step.step.answer) c.loop-step.step.adds c.loop-step.out c.loop-step.invariant.1 c.loop-step.invariant.0
-      _ c.next_step-step.ensures,
-)
+pub returns : goal.returns
+returns c =
+    let a = c.args in
+    let m = lent a.store.now a.last_known_shingle.now a.tables in
+    let well = (check_passed a.s m c.check.result Refusal.IllFormed c.check.ensures _ (sym c.ok_or.ensures.value ∙ c.in_ok-ok_or.was)).0 in
+    c.point_sum_unchecked.ensures ∙ sum_checked add_scaled (float_of plus_zero) (point_store a.s m) (weightings_of a.items.now) a.out.now well

@@ -5,29 +5,25 @@ use lib.ListN.{get_or}
 use Rattle.decimal.proofs.ReaderTurns.{value_turn, value_end, below_turn, value_fits}
 use Rattle.decimal.proofs.read.field_value.Goals as goal
 
-pub overflow_mul-v : goal.overflow_mul-v
-overflow_mul-v c =
-    let l = c.loop-i in
-    let t = c.args.text.now in
-    omega (arith, value_fits l.v l.i (get_or t l.i 0) l.invariant.1.0 (omega arith))
+pub overflow_mul-value : goal.overflow_mul-value
+overflow_mul-value c =
+    let l = c.loop-b in
+    omega (arith, value_fits l.value l.b-index 0 l.invariant.0 (omega arith))
 
-pub overflow_add-v : goal.overflow_add-v
-overflow_add-v c =
-    let l = c.loop-i in
-    let t = c.args.text.now in
-    omega (arith, value_fits l.v l.i (get_or t l.i 0) l.invariant.1.0 (omega arith), c.digit_of.ensures)
+pub overflow_add-value : goal.overflow_add-value
+overflow_add-value c =
+    let l = c.loop-b in
+    omega (arith, value_fits l.value l.b-index (get_or c.args.text.now l.b-index 0) l.invariant.0 (omega arith), c.digit_of.ensures)
 
-pub loop-i-preserved : goal.loop-i-preserved
-loop-i-preserved c =
-    let l = c.loop-i in
+pub loop-b-preserved : goal.loop-b-preserved
+loop-b-preserved c =
+    let l = c.loop-b in
     let t = c.args.text.now in (
-      omega arith,
-      (
-        rw c.digit_of.ensures (below_turn l.v l.i (get_or t l.i 0) l.invariant.1.0),
-        rw c.digit_of.ensures (value_turn t l.v l.i c.loop-i-test.true ∙ l.invariant.1.1),
-      ),
+      rw c.digit_of.ensures (below_turn l.value l.b-index (get_or t l.b-index 0) l.invariant.0),
+      rw c.digit_of.ensures (value_turn t l.value l.b-index c.loop-b-test.true ∙ l.invariant.1),
     )
 
 pub returns : goal.returns
 returns c =
-    value_end c.args.text.now c.loop-i.v c.loop-i.i c.loop-i-test.false ∙ c.loop-i.invariant.1.1
+    let l = c.loop-b in
+    value_end c.args.text.now l.value l.b-index (omega (arith, c.loop-b-test.false)) ∙ l.invariant.1

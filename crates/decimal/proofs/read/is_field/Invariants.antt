@@ -1,12 +1,8 @@
--- The loop keeps that the columns left of k decide.
-use Prim.Native.Nat.{◌≤◌}
+-- The loop keeps that the columns left decide.
 use mathlib.Core.Path.{◌≡◌}
-use lib.ListN.{length, take}
+use lib.ListN.{length}
 use Rattle.decimal.specs.Field.{columns, same_bytes, is_field}
 use Rattle.decimal.proofs.read.is_field.Given as goal
 
-abbrev pub invariant-loop-k : goal.invariant-loop-k
-invariant-loop-k l = (l.k ≤ length l.text) × (same_bytes (take l.k l.text) (columns l.k l.rest) ≡ is_field l.text l.number)
-
-abbrev pub decreases-loop-k : goal.decreases-loop-k
-decreases-loop-k l = l.k
+abbrev pub invariant-loop-b : goal.invariant-loop-b
+invariant-loop-b l = same_bytes l.b-iterator.iter.rest.now (columns (length l.b-iterator.iter.rest.now) l.rest) ≡ is_field l.text l.number

@@ -6,45 +6,36 @@ use Rattle.decimal.proofs.read.is_line.Goals as goal
 
 pub overflow_add-end : goal.overflow_add-end
 overflow_add-end c =
-    let s = c in
-    let l = c.loop-k in
-    omega (arith, s.type_inv, begins_room s.args.text.now s.args.width s.args.numbers.now l.at l.k c.loop-k-test.true l.invariant.1.0)
+    let l = c.loop-number in
+    omega (arith, begins_room c.args.text.now c.args.width c.args.numbers.now l.at l.number-index c.loop-number-test.true l.invariant.0)
 
 pub slice_bounds-is_field-end : goal.slice_bounds-is_field-end
 slice_bounds-is_field-end c =
-    let s = c in
-    let l = c.loop-k in
-    omega (arith, begins_room s.args.text.now s.args.width s.args.numbers.now l.at l.k c.loop-k-test.true l.invariant.1.0)
+    let l = c.loop-number in
+    omega (arith, begins_room c.args.text.now c.args.width c.args.numbers.now l.at l.number-index c.loop-number-test.true l.invariant.0)
 
 pub returns-then-not-is_field : goal.returns-then-not-is_field
 returns-then-not-is_field c =
-    let s = c in
-    let l = c.loop-k in
+    let l = c.loop-number in
     let f = c.is_field in
-    sym (sym l.invariant.1.1 ∙ part_compared s.args.text.now s.args.width s.args.numbers.now l.at l.k f.result c.loop-k-test.true l.invariant.1.0 f.ensures ∙ (rw c.if-not-is_field.true))
+    sym (sym l.invariant.1 ∙ part_compared c.args.text.now c.args.width c.args.numbers.now l.at l.number-index f.result c.loop-number-test.true l.invariant.0 f.ensures ∙ (rw c.if-not-is_field.true))
 
-pub loop-k-preserved : goal.loop-k-preserved
-loop-k-preserved c =
-    let s = c in
-    let l = c.loop-k in
+pub loop-number-preserved : goal.loop-number-preserved
+loop-number-preserved c =
+    let l = c.loop-number in
     let f = c.is_field in
-    let t = s.args.text.now in
-    let ns = s.args.numbers.now in (
-      omega arith,
-      (
-        begins_next t s.args.width ns l.at l.k c.loop-k-test.true l.invariant.1.0,
-        sym (sym l.invariant.1.1 ∙ part_compared t s.args.width ns l.at l.k f.result c.loop-k-test.true l.invariant.1.0 f.ensures ∙ (rw c.if-not-is_field.false)),
-      ),
+    let t = c.args.text.now in
+    let ns = c.args.numbers.now in (
+      begins_next t c.args.width ns l.at l.number-index c.loop-number-test.true l.invariant.0,
+      sym (sym l.invariant.1 ∙ part_compared t c.args.width ns l.at l.number-index f.result c.loop-number-test.true l.invariant.0 f.ensures ∙ (rw c.if-not-is_field.false)),
     )
 
 pub bounds-text-at : goal.bounds-text-at
 bounds-text-at c =
-    let s = c in
-    let l = c.loop-k in
-    omega (arith, end_room s.args.text.now s.args.width s.args.numbers.now l.at l.k c.loop-k-test.false l.invariant.1.0)
+    let l = c.loop-number in
+    omega (arith, end_room c.args.text.now c.args.width c.args.numbers.now l.at l.number-index (omega (arith, c.loop-number-test.false)) l.invariant.0)
 
 pub returns : goal.returns
 returns c =
-    let s = c in
-    let l = c.loop-k in
-    feed_compared s.args.text.now s.args.width s.args.numbers.now l.at l.k c.loop-k-test.false l.invariant.1.0 ∙ l.invariant.1.1
+    let l = c.loop-number in
+    feed_compared c.args.text.now c.args.width c.args.numbers.now l.at l.number-index (omega (arith, c.loop-number-test.false)) l.invariant.0 ∙ l.invariant.1

@@ -1,14 +1,10 @@
--- The loop keeps where field k begins, and that the line from there on decides.
-use Prim.Native.Nat.{◌≤◌, ◌-◌}
+-- The loop keeps where the next field begins, and that the line from there on decides.
 use mathlib.Core.Path.{◌≡◌}
-use lib.ListN.{length, drop}
+use lib.ListN.{drop}
 use Rattle.decimal.specs.Field.{same_bytes}
 use Rattle.decimal.specs.Lines.{line}
 use Rattle.decimal.proofs.ReaderTurns.{Begins}
 use Rattle.decimal.proofs.read.is_line.Given as goal
 
-abbrev pub invariant-loop-k : goal.invariant-loop-k
-invariant-loop-k l = (l.k ≤ length l.numbers) × (Begins l.text l.width l.numbers l.at l.k × (same_bytes (drop l.at l.text) (line l.width (drop l.k l.numbers)) ≡ same_bytes l.text (line l.width l.numbers)))
-
-abbrev pub decreases-loop-k : goal.decreases-loop-k
-decreases-loop-k l = length l.numbers - l.k
+abbrev pub invariant-loop-number : goal.invariant-loop-number
+invariant-loop-number l = Begins l.text l.width l.numbers l.at l.number-index × (same_bytes (drop l.at l.text) (line l.width (drop l.number-index l.numbers)) ≡ same_bytes l.text (line l.width l.numbers))

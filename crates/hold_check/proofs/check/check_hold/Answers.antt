@@ -1,39 +1,38 @@
 -- The record, the store's check, and then the list.
-use mathlib.Core.Bool.{false≢true}
-use Rattle.std.proofs.Common.{sym, ◌∙◌}
-use Rattle.hold_definitions.specs.Lent.{hold_held}
-use Rattle.hold_definitions.specs.Memory.{point_hold}
-use Rattle.store_check.specs.CheckLaws.{well_formed_lengths}
-use Rattle.store_check.specs.Figures.{figures_filled}
-use Rattle.hold_check.specs.CheckLaws.{readable, list_ready, hold_ill_store, hold_ill_record, hold_listed}
+use Rattle.std.proofs.Common.{sym, ap, ◌∙◌}
+use Rattle.hold_definitions.specs.Lent.{hold_lent}
+use Rattle.hold_definitions.specs.Memory.{point_hold, store_of}
+use Rattle.store_check.specs.Checked.{checked_lengths, checked_some}
+use Rattle.hold_check.specs.CheckLaws.{readable, list_ready}
+use Rattle.hold_check.specs.Checked.{figures_found, record_ill, store_ill, by_list}
 use Rattle.hold_check.proofs.check.check_hold.Goals as goal
 
-pub store_well-checked-requires : goal.store_well-checked-requires
-store_well-checked-requires c =
+pub returns-then-not-record_holds : goal.returns-then-not-record_holds
+returns-then-not-record_holds c =
     let a = c.args in
-    let h = point_hold a.h (hold_held a.store.now a.last_known_shingle.now a.reference_count.now a.location.now a.index_starts.now a.index_ends.now a.labels.now a.label_attributes.now a.label_count.now a.label_starts.now a.label_ends.now a.attributes.now a.attribute_count.now a.attribute_starts.now a.attribute_ends.now a.held_indices.now a.held_labels.now) in
-    (readable h (sym c.record_holds.ensures ∙ c.if-record_holds.true)).indices_lent
+    let h = point_hold a.h (hold_lent a.store.now a.last_known_shingle.now a.tables a.held_indices.now a.held_labels.now) in
+    record_ill h (sym c.record_holds.ensures ∙ c.if-not-record_holds.true)
 
-pub list_well-ok-requires : goal.list_well-ok-requires
-list_well-ok-requires c =
+pub store_well-requires : goal.store_well-requires
+store_well-requires c =
     let a = c.args in
-    let h = point_hold a.h (hold_held a.store.now a.last_known_shingle.now a.reference_count.now a.location.now a.index_starts.now a.index_ends.now a.labels.now a.label_attributes.now a.label_count.now a.label_starts.now a.label_ends.now a.attributes.now a.attribute_count.now a.attribute_starts.now a.attribute_ends.now a.held_indices.now a.held_labels.now) in
-    ((c.store_well-checked.ensures.1 c.if-well.true).1, list_ready h (sym (c.store_well-checked.ensures.0 ∙ well_formed_lengths a.h.store h.memory.store) ∙ c.if-well.true) (sym c.record_holds.ensures ∙ c.if-record_holds.true))
+    let h = point_hold a.h (hold_lent a.store.now a.last_known_shingle.now a.tables a.held_indices.now a.held_labels.now) in
+    (readable h (sym c.record_holds.ensures ∙ c.if-not-record_holds.false)).indices_lent
 
-pub returns-then-well : goal.returns-then-well
-returns-then-well c =
+pub returns-in_err-found : goal.returns-in_err-found
+returns-in_err-found c =
     let a = c.args in
-    let h = point_hold a.h (hold_held a.store.now a.last_known_shingle.now a.reference_count.now a.location.now a.index_starts.now a.index_ends.now a.labels.now a.label_attributes.now a.label_count.now a.label_starts.now a.label_ends.now a.attributes.now a.attribute_count.now a.attribute_starts.now a.attribute_ends.now a.held_indices.now a.held_labels.now) in
-    (c.list_well-ok.ensures ∙ hold_listed h (sym (c.store_well-checked.ensures.0 ∙ well_formed_lengths a.h.store h.memory.store) ∙ c.if-well.true) (sym c.record_holds.ensures ∙ c.if-record_holds.true) c.store_well-checked.result.figures.live (c.store_well-checked.ensures.1 c.if-well.true).0.live_is, λ e. figures_filled a.h.store h.memory.store _ (c.store_well-checked.ensures.1 c.if-well.true).0)
+    let h = point_hold a.h (hold_lent a.store.now a.last_known_shingle.now a.tables a.held_indices.now a.held_labels.now) in
+    rw c.from_residual.ensures (store_ill h (sym (c.store_well.ensures.0 ∙ checked_lengths a.h.store h.memory.store) ∙ ap figures_found c.in_err-found.was))
 
-pub returns-else-well : goal.returns-else-well
-returns-else-well c =
+pub list_well-well-requires : goal.list_well-well-requires
+list_well-well-requires c =
     let a = c.args in
-    let h = point_hold a.h (hold_held a.store.now a.last_known_shingle.now a.reference_count.now a.location.now a.index_starts.now a.index_ends.now a.labels.now a.label_attributes.now a.label_count.now a.label_starts.now a.label_ends.now a.attributes.now a.attribute_count.now a.attribute_starts.now a.attribute_ends.now a.held_indices.now a.held_labels.now) in
-    (hold_ill_store h (sym (c.store_well-checked.ensures.0 ∙ well_formed_lengths a.h.store h.memory.store) ∙ c.if-well.false), λ e. absurd (false≢true e))
+    let h = point_hold a.h (hold_lent a.store.now a.last_known_shingle.now a.tables a.held_indices.now a.held_labels.now) in
+    (c.in_ok-found.ensures.1, list_ready h (checked_some (store_of h) _ (sym (c.store_well.ensures.0 ∙ checked_lengths a.h.store h.memory.store) ∙ ap figures_found c.in_ok-found.was)).0 (sym c.record_holds.ensures ∙ c.if-not-record_holds.false))
 
-pub returns-else-record_holds : goal.returns-else-record_holds
-returns-else-record_holds c =
+pub returns : goal.returns
+returns c =
     let a = c.args in
-    let h = point_hold a.h (hold_held a.store.now a.last_known_shingle.now a.reference_count.now a.location.now a.index_starts.now a.index_ends.now a.labels.now a.label_attributes.now a.label_count.now a.label_starts.now a.label_ends.now a.attributes.now a.attribute_count.now a.attribute_starts.now a.attribute_ends.now a.held_indices.now a.held_labels.now) in
-    (hold_ill_record h (sym c.record_holds.ensures ∙ c.if-record_holds.false), λ e. absurd (false≢true e))
+    let h = point_hold a.h (hold_lent a.store.now a.last_known_shingle.now a.tables a.held_indices.now a.held_labels.now) in
+    rw (c.then_some.ensures, c.list_well-well.ensures) (by_list h (sym c.record_holds.ensures ∙ c.if-not-record_holds.false) _ (sym (c.store_well.ensures.0 ∙ checked_lengths a.h.store h.memory.store) ∙ ap figures_found c.in_ok-found.was))

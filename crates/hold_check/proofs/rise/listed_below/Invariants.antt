@@ -1,10 +1,7 @@
 -- The invariant: what holds of the entries below k.
-use Rattle.std.proofs.Common.{◌≡◌, ◌-◌, ◌≤◌, ltb, get_or}
+use Rattle.std.proofs.Common.{◌≡◌, ltb, get_or}
 use Rattle.terms.specs.Below.{every_below}
 use Rattle.hold_check.proofs.rise.listed_below.Given as goal
 
 abbrev pub invariant-loop-k : goal.invariant-loop-k
-invariant-loop-k l = (l.k ≤ l.held) × (l.ok ≡ every_below l.k (λ j. ltb (get_or l.list j 0) l.n))
-
-abbrev pub decreases-loop-k : goal.decreases-loop-k
-decreases-loop-k l = l.held - l.k
+invariant-loop-k l = l.ok ≡ every_below l.k (λ j. ltb (get_or l.list j 0) l.n)

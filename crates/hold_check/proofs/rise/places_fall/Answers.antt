@@ -7,7 +7,7 @@ use Rattle.hold_check.proofs.rise.places_fall.Goals as goal
 
 pub loop-i-init : goal.loop-i-init
 unfolding count_below sum_below
-loop-i-init c = (omega arith, refl)
+loop-i-init c = refl
 
 pub overflow_add-count : goal.overflow_add-count
 overflow_add-count c =
@@ -18,4 +18,4 @@ overflow_add-count c =
 pub loop-i-preserved : goal.loop-i-preserved
 loop-i-preserved c =
     let l = c.loop-i in
-    (omega arith, count_more l.i (falls c.args.location.now) l.count l.invariant.1)
+    count_more l.i (falls c.args.location.now) l.count l.invariant

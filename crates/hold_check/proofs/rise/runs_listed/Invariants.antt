@@ -1,11 +1,7 @@
 -- The invariant: what holds of the entries below k.
-use Rattle.std.proofs.Common.{◌≡◌, ◌+◌, ◌-◌, ◌≤◌, eqb, get_or}
-use Rattle.terms.specs.Below.{every_below}
-use Rattle.hold_check.specs.Runs.{turned}
+use Rattle.std.proofs.Common.{◌≡◌}
+use Rattle.hold_check.specs.Runs.{runs_listed}
 use Rattle.hold_check.proofs.rise.runs_listed.Given as goal
 
 abbrev pub invariant-loop-k : goal.invariant-loop-k
-invariant-loop-k l = (l.k ≤ l.held) × (l.ok ≡ every_below l.k (λ j. eqb (get_or l.list j 0) (turned l.end (l.first + j))))
-
-abbrev pub decreases-loop-k : goal.decreases-loop-k
-decreases-loop-k l = l.held - l.k
+invariant-loop-k l = l.ok ≡ runs_listed l.k l.first l.end l.list

@@ -1,5 +1,5 @@
 -- The invariant: what holds of the entries below i.
-use Rattle.std.proofs.Common.{refl, arith}
+use Rattle.std.proofs.Common.{refl}
 use Rattle.terms.specs.Below.{every_below}
 use Rattle.hold_check.specs.Steady.{entries_held}
 use Rattle.hold_check.proofs.SteadyLaws.{entries_more}
@@ -7,12 +7,10 @@ use Rattle.hold_check.proofs.steady.entries_held.Goals as goal
 
 pub loop-i-init : goal.loop-i-init
 unfolding entries_held every_below
-loop-i-init c = (omega arith, refl)
+loop-i-init c = refl
 
 pub loop-i-preserved : goal.loop-i-preserved
 loop-i-preserved c =
     let l = c.loop-i in
-    let a = c.args in (
-      omega arith,
-      entries_more l.i a.start a.more a.other a.further a.reference_count.now a.location.now l.ok c.within-first.result c.within-second.result c.entry_held-held.result l.invariant.1 c.within-first.ensures c.within-second.ensures c.entry_held-held.ensures,
-    )
+    let a = c.args in
+    entries_more l.i a.pair.start a.pair.more a.pair.other a.pair.further a.reference_count.now a.location.now l.ok c.within-first.result c.within-second.result c.entry_held-ok.result l.invariant c.within-first.ensures c.within-second.ensures c.entry_held-ok.ensures

@@ -6,8 +6,8 @@ use Rattle.hold_check.specs.Steady.{steady_found}
 use Rattle.hold_check.proofs.SteadyLaws.{few_tested, table_most, shingles, row_most}
 use Rattle.hold_check.proofs.steady.steady.Goals as goal
 
-pub pair_of-pair-requires : goal.pair_of-pair-requires
-pair_of-pair-requires c =
+pub pair_of-requires : goal.pair_of-requires
+pair_of-requires c =
     let start = c in
     let a = start.args in
     let f = few_tested (table_length a.s) a.s.index_manager.last_in_use a.index_starts.now a.index_ends.now c.lent_enough-lent.result c.lent_enough-lent.ensures c.if-lent-count.true in
@@ -17,7 +17,7 @@ pub overflow_sub-n : goal.overflow_sub-n
 overflow_sub-n c =
     let start = c in
     let a = start.args in
-    let pair = c.pair_of-pair.ensures c.if-paired.true in
+    let pair = c.in-Some.ensures in
     omega (arith, pair.number, free_le_capacity (table_length a.s) a.s.index_manager.last_in_use a.index_starts.now a.index_ends.now)
 
 pub nonzero_div-base : goal.nonzero_div-base
@@ -36,6 +36,6 @@ pub returns-then-runs_rise : goal.returns-then-runs_rise
 returns-then-runs_rise c =
     let start = c in
     let a = start.args in
-    let pair = c.pair_of-pair in
+    let pair = c.in-Some.pair in
     λ t.
-    steady_found a.s a.reference_count.now a.location.now a.index_starts.now a.index_ends.now a.held_indices.now a.held pair.result.start pair.result.more pair.result.other pair.result.further pair.result.free start.requires.0 start.requires.1 (pair.ensures c.if-paired.true) c.if-n-pair.true (sym c.entries_held.ensures ∙ c.if-entries_held.true) (c.runs_rise.ensures c.if-runs_rise.true) (c.last_ends.ensures t)
+    steady_found a.s a.reference_count.now a.location.now a.index_starts.now a.index_ends.now a.held_indices.now a.held pair.start pair.more pair.other pair.further pair.free start.requires.0 start.requires.1 c.in-Some.ensures c.if-n-pair.true (sym c.entries_held.ensures ∙ c.if-entries_held.true) (c.runs_rise.ensures c.if-runs_rise.true) (c.last_ends.ensures t)

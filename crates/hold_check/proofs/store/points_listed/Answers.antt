@@ -1,10 +1,8 @@
 -- A hold as its own calls leave it, or else the table and then the places.
-use Rattle.std.proofs.Common.{Bool, ◌&&◌, sym, ap, ◌∙◌}
-use mathlib.Core.Bool.{false≢true}
+use Rattle.std.proofs.Common.{sym, refl, ◌∙◌}
 use Rattle.store_definitions.specs.WellFormed.{places_distinct}
 use Rattle.store_definitions.specs.Parts.{table_length}
-use Rattle.store_check.specs.PointsTest.{points_are}
-use Rattle.hold_check.proofs.StoreLaws.{list_distinct, list_known}
+use Rattle.hold_check.proofs.StoreLaws.{list_distinct, list_known, points_by}
 use Rattle.hold_check.proofs.SteadyLaws.{table_most, places_room}
 use Rattle.hold_check.proofs.store.points_listed.Goals as goal
 
@@ -14,36 +12,34 @@ live_rise-rises-requires c =
     let a = start.args in
     (table_most a.s a.reference_count.now a.location.now start.requires.0, (places_room a.s a.reference_count.now a.location.now start.requires.0, start.requires.1))
 
-pub distinct-ok-requires : goal.distinct-ok-requires
-distinct-ok-requires c =
+pub distinct-requires : goal.distinct-requires
+distinct-requires c =
     let start = c in
     let a = start.args in
     let r = places_room a.s a.reference_count.now a.location.now start.requires.0 in
-    let f = c.table_well-table.ensures in
-    let w = c.if-well.true in (
-      list_distinct a.s a.reference_count.now a.location.now a.index_starts.now a.index_ends.now _ _ _ f w r a.held_indices.now a.held start.requires.1 _ c.live_rise-rises.ensures,
-      (f.limit_most w, (r, f.places_below w)),
+    let f = c.in_ok-table.ensures in (
+      list_distinct a.s a.reference_count.now a.location.now a.index_starts.now a.index_ends.now _ _ f.1 (sym f.0) r a.held_indices.now a.held start.requires.1 _ c.live_rise-rises.ensures,
+      (f.1.limit_most, (r, f.1.places_below)),
     )
 
-pub returns-then-well : goal.returns-then-well
-returns-then-well c =
+pub returns-in_err-table : goal.returns-in_err-table
+returns-in_err-table c =
+    let a = c.args in
+    let f = c.in_err-table.ensures in
+    rw c.from_residual.ensures (points_by a.s a.reference_count.now a.location.now a.index_starts.now a.index_ends.now {d = places_distinct (table_length a.s) a.location.now} f.0 refl, tt)
+
+pub returns-then-distinct : goal.returns-then-distinct
+returns-then-distinct c =
     let start = c in
     let a = start.args in
     let r = places_room a.s a.reference_count.now a.location.now start.requires.0 in
-    let f = c.table_well-table.ensures in
-    let w = c.if-well.true in (
-      c.distinct-ok.ensures
-          ∙ (ap (λ (b : Bool). b && places_distinct (table_length a.s) a.location.now) (sym w ∙ f.is)
-          ∙ points_are a.s a.reference_count.now a.location.now a.index_starts.now a.index_ends.now),
-      λ e. (f.live_is w, list_known a.s a.reference_count.now a.location.now a.index_starts.now a.index_ends.now _ _ _ f w r a.held_indices.now a.held start.requires.1 _ c.live_rise-rises.ensures c.rising_single-listed.result c.rising_single-listed.ensures),
+    let f = c.in_ok-table.ensures in (
+      points_by a.s a.reference_count.now a.location.now a.index_starts.now a.index_ends.now f.0 (sym c.if-distinct.true ∙ c.distinct.ensures),
+      (f.1.live_is, list_known a.s a.reference_count.now a.location.now a.index_starts.now a.index_ends.now _ _ f.1 (sym f.0) r a.held_indices.now a.held start.requires.1 _ c.live_rise-rises.ensures c.rising_single-listed.result c.rising_single-listed.ensures),
     )
 
 pub returns : goal.returns
 returns c =
-    let start = c in
-    let a = start.args in
-    let f = c.table_well-table.ensures in (
-      ap (λ (b : Bool). b && places_distinct (table_length a.s) a.location.now) (sym c.if-well.false ∙ f.is)
-          ∙ points_are a.s a.reference_count.now a.location.now a.index_starts.now a.index_ends.now,
-      λ e. absurd (false≢true e),
-    )
+    let a = c.args in
+    let f = c.in_ok-table.ensures in
+    (points_by a.s a.reference_count.now a.location.now a.index_starts.now a.index_ends.now f.0 (sym c.if-distinct.false ∙ c.distinct.ensures), tt)

@@ -1,52 +1,55 @@
--- Each way out is one of the laws of `store_check`.
-use Rattle.std.proofs.Common.{length, sym, ◌∙◌, arith}
-use mathlib.Core.Bool.{false≢true}
+-- Each way out is one of the laws of the check of a store.
+use Rattle.std.proofs.Common.{length, refl, sym, ◌∙◌}
 use lib.ListN.{length-replicate}
 use Rattle.store_definitions.specs.Memory.{point_store}
-use Rattle.store_check.specs.Tables.{tables}
-use Rattle.store_check.specs.CheckLaws.{record_ready, record_fails, points_fail, labels_decide}
-use Rattle.hold_check.proofs.StoreLaws.{record_tested, labels_off}
+use Rattle.store_definitions.specs.Parts.{table_length, label_half}
+use Rattle.store_check.specs.Tables.{tables_lent}
+use Rattle.store_check.specs.CheckLaws.{record_ready}
+use Rattle.store_check.specs.PointsTest.{points_test}
+use Rattle.store_check.specs.Entries.{counts_live}
+use Rattle.store_check.proofs.CheckedLaws.{record_ill, points_ill, labels_ill, all_well}
+use Rattle.hold_check.proofs.StoreLaws.{passed, failed, labels_off}
 use Rattle.hold_check.proofs.store.store_well.Goals as goal
 
-pub points_listed-points-requires : goal.points_listed-points-requires
-points_listed-points-requires c =
+pub returns-then-not-record_well : goal.returns-then-not-record_well
+returns-then-not-record_well c =
     let a = c.args in
-    let tested =
-    record_tested a.s a.floats a.window (length a.reference_count.now) (length a.location.now) (length a.index_starts.now) (length a.index_ends.now) c.table_allowed-table.result c.numbers_well-numbers.result c.table_allowed-table.ensures c.numbers_well-numbers.ensures c.if-table-numbers.true in
-    (record_ready a.s a.floats a.window (length a.index_starts.now) (length a.index_ends.now) a.reference_count.now a.location.now tested, c.requires)
+    let q = point_store a.s (tables_lent a.floats a.window a.tables) in
+    (record_ill q a.floats a.window (length-replicate {A = Unit {0}} a.floats tt) (length-replicate {A = Unit {0}} a.window tt) c.lengths_of-lent.ensures.fit (sym (c.record_well.ensures ∙ rw c.lengths_of-lent.ensures.lengths refl) ∙ c.if-not-record_well.true), tt)
 
-pub returns-then-s : goal.returns-then-s
-returns-then-s c =
+pub points_listed-requires : goal.points_listed-requires
+points_listed-requires c =
     let a = c.args in
-    let q = point_store a.s (tables a.floats a.window a.reference_count.now a.location.now a.index_starts.now a.index_ends.now a.labels.now a.label_attributes.now a.label_count.now a.label_starts.now a.label_ends.now a.attributes.now a.attribute_count.now a.attribute_starts.now a.attribute_ends.now) in
-    let tested =
-    record_tested a.s a.floats a.window (length a.reference_count.now) (length a.location.now) (length a.index_starts.now) (length a.index_ends.now) c.table_allowed-table.result c.numbers_well-numbers.result c.table_allowed-table.ensures c.numbers_well-numbers.ensures c.if-table-numbers.true in (
-      c.labels_well_formed-half.ensures.0 ∙ labels_decide q a.floats a.window (length-replicate {A = Unit {0}} a.floats tt) (length-replicate {A = Unit {0}} a.window tt) (λ i. omega (arith, c.shared_slice_known-1.given i)) tested (sym c.points_listed-points.ensures.0 ∙ c.if-well.true),
-      λ e. (record { live_is = (c.points_listed-points.ensures.1 c.if-well.true).0; labels_free = λ on. c.labels_well_formed-half.ensures.1 e on }, (c.points_listed-points.ensures.1 c.if-well.true).1),
-    )
+    (record_ready a.s a.floats a.window (length a.tables.index_starts.now) (length a.tables.index_ends.now) a.tables.reference_count.now a.tables.location.now (sym (c.record_well.ensures ∙ rw c.lengths_of-lent.ensures.lengths refl) ∙ c.if-not-record_well.false), c.requires)
 
-pub returns-then-well : goal.returns-then-well
-returns-then-well c =
+pub returns-in_err-points : goal.returns-in_err-points
+returns-in_err-points c =
     let a = c.args in
-    let q = point_store a.s (tables a.floats a.window a.reference_count.now a.location.now a.index_starts.now a.index_ends.now a.labels.now a.label_attributes.now a.label_count.now a.label_starts.now a.label_ends.now a.attributes.now a.attribute_count.now a.attribute_starts.now a.attribute_ends.now) in
-    let tested =
-    record_tested a.s a.floats a.window (length a.reference_count.now) (length a.location.now) (length a.index_starts.now) (length a.index_ends.now) c.table_allowed-table.result c.numbers_well-numbers.result c.table_allowed-table.ensures c.numbers_well-numbers.ensures c.if-table-numbers.true in (
-      labels_off a.s.store_labels _ c.if-s.false ∙ labels_decide q a.floats a.window (length-replicate {A = Unit {0}} a.floats tt) (length-replicate {A = Unit {0}} a.window tt) (λ i. omega (arith, c.shared_slice_known-1.given i)) tested (sym c.points_listed-points.ensures.0 ∙ c.if-well.true),
-      λ e. (record { live_is = (c.points_listed-points.ensures.1 c.if-well.true).0; labels_free = λ on. absurd (false≢true (sym c.if-s.false ∙ on)) }, (c.points_listed-points.ensures.1 c.if-well.true).1),
-    )
+    let q = point_store a.s (tables_lent a.floats a.window a.tables) in
+    let none = failed (points_test a.s a.tables.reference_count.now a.tables.location.now a.tables.index_starts.now a.tables.index_ends.now) 0 c.in_err-points.ensures.0 in
+    rw c.from_residual.ensures (points_ill q a.floats a.window (length-replicate {A = Unit {0}} a.floats tt) (length-replicate {A = Unit {0}} a.window tt) c.lengths_of-lent.ensures.fit (sym (c.record_well.ensures ∙ rw c.lengths_of-lent.ensures.lengths refl) ∙ c.if-not-record_well.false) 0 none, tt)
 
-pub returns-else-well : goal.returns-else-well
-returns-else-well c =
+pub returns-then-not-s : goal.returns-then-not-s
+returns-then-not-s c =
     let a = c.args in
-    let q = point_store a.s (tables a.floats a.window a.reference_count.now a.location.now a.index_starts.now a.index_ends.now a.labels.now a.label_attributes.now a.label_count.now a.label_starts.now a.label_ends.now a.attributes.now a.attribute_count.now a.attribute_starts.now a.attribute_ends.now) in
-    let tested =
-    record_tested a.s a.floats a.window (length a.reference_count.now) (length a.location.now) (length a.index_starts.now) (length a.index_ends.now) c.table_allowed-table.result c.numbers_well-numbers.result c.table_allowed-table.ensures c.numbers_well-numbers.ensures c.if-table-numbers.true in
-    (points_fail q a.floats a.window (length-replicate {A = Unit {0}} a.floats tt) (length-replicate {A = Unit {0}} a.window tt) (λ i. omega (arith, c.shared_slice_known-1.given i)) tested (sym c.points_listed-points.ensures.0 ∙ c.if-well.false), λ e. absurd (false≢true e))
+    let q = point_store a.s (tables_lent a.floats a.window a.tables) in
+    let f = c.in_ok-points.ensures in
+    let live = passed (points_test a.s a.tables.reference_count.now a.tables.location.now a.tables.index_starts.now a.tables.index_ends.now) _ (counts_live (table_length a.s) a.tables.reference_count.now) f.0 f.1.0 in
+    (all_well q a.floats a.window (length-replicate {A = Unit {0}} a.floats tt) (length-replicate {A = Unit {0}} a.window tt) c.lengths_of-lent.ensures.fit (sym (c.record_well.ensures ∙ rw c.lengths_of-lent.ensures.lengths refl) ∙ c.if-not-record_well.false) _ live _ (labels_off a.s.store_labels a.s.classes a.s.capacity (label_half q) c.if-not-s.true), f.1.1)
 
-pub returns-else-table-numbers : goal.returns-else-table-numbers
-returns-else-table-numbers c =
+pub returns-in_err-free : goal.returns-in_err-free
+returns-in_err-free c =
     let a = c.args in
-    let q = point_store a.s (tables a.floats a.window a.reference_count.now a.location.now a.index_starts.now a.index_ends.now a.labels.now a.label_attributes.now a.label_count.now a.label_starts.now a.label_ends.now a.attributes.now a.attribute_count.now a.attribute_starts.now a.attribute_ends.now) in
-    let tested =
-    record_tested a.s a.floats a.window (length a.reference_count.now) (length a.location.now) (length a.index_starts.now) (length a.index_ends.now) c.table_allowed-table.result c.numbers_well-numbers.result c.table_allowed-table.ensures c.numbers_well-numbers.ensures c.if-table-numbers.false in
-    (record_fails q a.floats a.window (length-replicate {A = Unit {0}} a.floats tt) (length-replicate {A = Unit {0}} a.window tt) (λ i. omega (arith, c.shared_slice_known-1.given i)) tested, λ e. absurd (false≢true e))
+    let q = point_store a.s (tables_lent a.floats a.window a.tables) in
+    let f = c.in_ok-points.ensures in
+    let live = passed (points_test a.s a.tables.reference_count.now a.tables.location.now a.tables.index_starts.now a.tables.index_ends.now) _ (counts_live (table_length a.s) a.tables.reference_count.now) f.0 f.1.0 in
+    rw c.from_residual-in_err-free.ensures
+    (labels_ill q a.floats a.window (length-replicate {A = Unit {0}} a.floats tt) (length-replicate {A = Unit {0}} a.window tt) c.lengths_of-lent.ensures.fit (sym (c.record_well.ensures ∙ rw c.lengths_of-lent.ensures.lengths refl) ∙ c.if-not-record_well.false) _ _ live (sym c.in_err-free.was ∙ c.labels_well_formed.ensures), tt)
+
+pub returns : goal.returns
+returns c =
+    let a = c.args in
+    let q = point_store a.s (tables_lent a.floats a.window a.tables) in
+    let f = c.in_ok-points.ensures in
+    let live = passed (points_test a.s a.tables.reference_count.now a.tables.location.now a.tables.index_starts.now a.tables.index_ends.now) _ (counts_live (table_length a.s) a.tables.reference_count.now) f.0 f.1.0 in
+    (all_well q a.floats a.window (length-replicate {A = Unit {0}} a.floats tt) (length-replicate {A = Unit {0}} a.window tt) c.lengths_of-lent.ensures.fit (sym (c.record_well.ensures ∙ rw c.lengths_of-lent.ensures.lengths refl) ∙ c.if-not-record_well.false) _ live _ (sym c.in_ok-free.was ∙ c.labels_well_formed.ensures), f.1.1)

@@ -7,14 +7,8 @@ use Rattle.interval_store_manager.proofs.check.count_ones.Goals as goal
 
 pub loop-i-init : goal.loop-i-init
 unfolding sum_below
-loop-i-init c = (omega arith, (refl, omega arith))
+loop-i-init c = (refl, omega arith)
 
 pub loop-i-preserved : goal.loop-i-preserved
 unfolding sum_below
-loop-i-preserved c = (
-  omega arith,
-  (
-    rw add-one (omega (arith, c.loop-i.invariant.1.0)),
-    omega (arith, c.requires.1.1 c.loop-i.i),
-  ),
-)
+loop-i-preserved c = (rw add-one (omega (arith, c.loop-i.invariant.0)), omega (arith, c.requires.1.1 c.loop-i.i))

@@ -1,10 +1,6 @@
 -- The invariant is `Sweeping`; each way out is one of its laws.
-use Prim.Native.Nat.{◌-◌}
 use Rattle.interval_store_manager.proofs.Sweeping.{Sweeping}
 use Rattle.interval_store_manager.proofs.check.mark_intervals.Given as goal
 
 abbrev pub invariant-loop-i : goal.invariant-loop-i
 invariant-loop-i l = Sweeping l.capacity l.n l.starts l.ends l.initial.marks l.marks l.total l.i
-
-abbrev pub decreases-loop-i : goal.decreases-loop-i
-decreases-loop-i l = l.n - l.i

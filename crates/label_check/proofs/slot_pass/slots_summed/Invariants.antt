@@ -1,12 +1,8 @@
 -- The invariant: what holds of the slots below s.
-use Prim.Native.Nat.{◌≤◌, ◌-◌}
-use mathlib.Core.Path.{◌≡◌}
+use Rattle.std.specs.Prelude.{◌≡◌}
 use Rattle.terms.specs.Below.{every_below}
 use Rattle.label_check.specs.Checks.{slot_passes}
 use Rattle.label_check.proofs.slot_pass.slots_summed.Given as goal
 
 abbrev pub invariant-loop-s : goal.invariant-loop-s
-invariant-loop-s l = (l.s ≤ l.capacity) × (l.ok ≡ every_below l.s (λ k. slot_passes l.attribute_count l.marks l.sums k))
-
-abbrev pub decreases-loop-s : goal.decreases-loop-s
-decreases-loop-s l = l.capacity - l.s
+invariant-loop-s l = l.ok ≡ every_below l.s (λ k. slot_passes l.attribute_count l.marks l.sums k)

@@ -1,37 +1,33 @@
 -- A label and its slot are each lowered; the slot of a live label is live.
-use native.Mathlib.Omega.{arith}
-use mathlib.Core.Path.{ap₂}
+use Rattle.std.proofs.Common.{ap₂}
 use Rattle.labels.specs.Counted.{Counted}
-use Rattle.labels.specs.Labels.{label_lowered, with_tables}
-use Rattle.labels.specs.Sound.{sound}
-use Rattle.labels.specs.SlotLaws.{slot_counts}
-use Rattle.labels.specs.Forms.{label_half}
+use Rattle.labels.specs.CountedLaws.{lowered_at_one}
+use Rattle.labels.specs.Labels.{label_lowered, slot_at, with_tables}
+use Rattle.labels.specs.Lent.{labels_lowering}
+use Rattle.labels.proofs.Counting.{index_lent, slot_lent, slot_live, index_releasable, slot_releasable}
 use Rattle.labels.proofs.count.dec_label.Goals as goal
 
-pub bounds-label_attributes-i : goal.bounds-label_attributes-i
-bounds-label_attributes-i c =
-    let l = label_half c.args.managers c.args.labels.now c.args.label_attributes.now c.args.label_count.now c.args.label_starts.now c.args.label_ends.now c.args.attributes.now c.args.attribute_count.now c.args.attribute_starts.now c.args.attribute_ends.now in
-    let w = sound c.args.classes.now c.args.capacity l c.requires.0 in
-    omega (arith, w.slots_lent, c.requires.1.0)
+pub bounds-tables-i : goal.bounds-tables-i
+bounds-tables-i c = index_lent c.requires
 
-pub lower_label-label_manager-requires : goal.lower_label-label_manager-requires
-lower_label-label_manager-requires c =
-    let l = label_half c.args.managers c.args.labels.now c.args.label_attributes.now c.args.label_count.now c.args.label_starts.now c.args.label_ends.now c.args.attributes.now c.args.attribute_count.now c.args.attribute_starts.now c.args.attribute_ends.now in
-    let w = sound c.args.classes.now c.args.capacity l c.requires.0 in
-    record { well = w.label_table_lem; below = c.requires.1.0; live = c.requires.1.1 }
+pub release_at_one-requires : goal.release_at_one-requires
+release_at_one-requires c = index_releasable c.requires
 
-pub lower_slot-attribute_manager-requires : goal.lower_slot-attribute_manager-requires
-lower_slot-attribute_manager-requires c =
-    let l = label_half c.args.managers c.args.labels.now c.args.label_attributes.now c.args.label_count.now c.args.label_starts.now c.args.label_ends.now c.args.attributes.now c.args.attribute_count.now c.args.attribute_starts.now c.args.attribute_ends.now in
-    let w = sound c.args.classes.now c.args.capacity l c.requires.0 in
-    record {
-      well = w.slot_table;
-      below = (w.stands c.args.label.0 c.requires.1.0 c.requires.1.1).slot_below;
-      live = omega (arith, slot_counts c.args.classes.now c.args.capacity l w c.args.label.0 c.requires.1.0 c.requires.1.1, c.requires.1.1);
-    }
+pub bounds-tables-slot : goal.bounds-tables-slot
+bounds-tables-slot c = slot_lent c.requires
 
-pub returns : goal.returns
+pub overflow_sub-tables-2 : goal.overflow_sub-tables-2
+overflow_sub-tables-2 c = slot_live c.requires
+
+pub bounds-tables-slot-2 : goal.bounds-tables-slot-2
+bounds-tables-slot-2 c = slot_lent c.requires
+
+pub release_at_one-requires-2 : goal.release_at_one-requires-2
+release_at_one-requires-2 c = slot_releasable c.requires
+
+pub returns-clause-lowered : goal.returns-clause-lowered
 unfolding label_lowered
-returns c =
-    let l = label_half c.args.managers c.args.labels.now c.args.label_attributes.now c.args.label_count.now c.args.label_starts.now c.args.label_ends.now c.args.attributes.now c.args.attribute_count.now c.args.attribute_starts.now c.args.attribute_ends.now in
-    ap₂ (λ (x y : Counted). with_tables l x y) c.lower_label-label_manager.ensures c.lower_slot-attribute_manager.ensures
+returns-clause-lowered c =
+    let l = labels_lowering c.args.managers.now c.args.tables.now in
+    ap₂ (λ (x y : Counted). with_tables l x y) (lowered_at_one l.label_table c.args.label.0 _ _ _ c.release_at_one.ensures)
+    (lowered_at_one l.attribute_table (slot_at l c.args.label.0) _ _ _ c.release_at_one-2.ensures)

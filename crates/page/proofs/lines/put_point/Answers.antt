@@ -6,5 +6,4 @@ use Rattle.page.proofs.lines.put_point.Goals as goal
 
 pub put_line-requires : goal.put_line-requires
 put_line-requires c =
-    let s = c in
-    omega (arith, s.requires, length_line 6 (s.args.index ∷ s.args.count ∷ s.args.place ∷ []))
+    omega (arith, c.requires, length_line 6 (c.args.index ∷ c.args.count ∷ c.args.place ∷ []))

@@ -9,27 +9,27 @@ use Rattle.point_store_c.proofs.manager.ps_manager_change_capacity.Goals as goal
 pub manager_out-requires : goal.manager_out-requires
 manager_out-requires c =
     let a = c.args in
-    let i = c.manager_in in
-    let g = c.change_capacity-result in
+    let i = c.manager_in-m in
+    let g = c.change_capacity in
     accepted_long (λ m. change_spec m a.starts.now a.ends.now a.new_capacity)
-    a.words.now i.result g.result.manager g.new.starts g.new.ends (changed_means g.result.answer) done
+    a.words.now i.result g.new.self g.new.starts g.new.ends (changed_means g.result) done
     (change_refuses a.starts.now a.ends.now a.new_capacity) i.ensures g.ensures
-    (ap changed_means c.in-Done.is) refl
+    (ap changed_means c.in-Ok.is) refl
 
-pub returns-in-Refused : goal.returns-in-Refused
-returns-in-Refused c =
+pub returns-in-Err : goal.returns-in-Err
+returns-in-Err c =
     let a = c.args in
-    let i = c.manager_in in
-    let g = c.change_capacity-result in
+    let i = c.manager_in-m in
+    let g = c.change_capacity in
     call_refused (λ m. change_spec m a.starts.now a.ends.now a.new_capacity)
-    a.words.now i.result g.result.manager g.new.starts g.new.ends (changed_means g.result.answer) i.ensures g.ensures [] c.refusal_number.result
-    (ap changed_means c.in-Refused.is ∙ ap refused (sym c.refusal_number.ensures))
+    a.words.now i.result g.new.self g.new.starts g.new.ends (changed_means g.result) i.ensures g.ensures [] c.from.result
+    (ap changed_means c.in-Err.is ∙ ap refused (sym c.from.ensures))
 
-pub returns-in-Done : goal.returns-in-Done
-returns-in-Done c =
+pub returns-in-Ok : goal.returns-in-Ok
+returns-in-Ok c =
     let a = c.args in
-    let i = c.manager_in in
-    let g = c.change_capacity-result in
+    let i = c.manager_in-m in
+    let g = c.change_capacity in
     rw c.manager_out.ensures
     (call_done (λ m. change_spec m a.starts.now a.ends.now a.new_capacity)
-    a.words.now i.result g.result.manager g.new.starts g.new.ends (changed_means g.result.answer) i.ensures g.ensures [] (ap changed_means c.in-Done.is))
+    a.words.now i.result g.new.self g.new.starts g.new.ends (changed_means g.result) i.ensures g.ensures [] (ap changed_means c.in-Ok.is))

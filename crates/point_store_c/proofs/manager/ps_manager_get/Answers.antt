@@ -9,28 +9,28 @@ use Rattle.point_store_c.proofs.manager.ps_manager_get.Goals as goal
 pub manager_out-requires : goal.manager_out-requires
 manager_out-requires c =
     let a = c.args in
-    let i = c.manager_in in
-    let g = c.get-result in
+    let i = c.manager_in-m in
+    let g = c.get in
     accepted_long (λ m. get_spec m a.starts.now a.ends.now)
-    a.words.now i.result g.result.manager g.new.starts a.ends.now (got_means g.result.answer) (given c.in-Given.given.index c.in-Given.given.free)
+    a.words.now i.result g.new.self g.new.starts a.ends.now (got_means g.result) (given c.in-Ok.given.index c.in-Ok.given.free)
     (get_refuses a.starts.now a.ends.now) i.ensures g.ensures
-    (ap got_means c.in-Given.is) refl
+    (ap got_means c.in-Ok.is) refl
 
-pub returns-in-Refused : goal.returns-in-Refused
-returns-in-Refused c =
+pub returns-in-Err : goal.returns-in-Err
+returns-in-Err c =
     let a = c.args in
-    let i = c.manager_in in
-    let g = c.get-result in
+    let i = c.manager_in-m in
+    let g = c.get in
     call_refused (λ m. get_spec m a.starts.now a.ends.now)
-    a.words.now i.result g.result.manager g.new.starts a.ends.now (got_means g.result.answer) i.ensures g.ensures (a.index.now ∷ a.free_indices.now ∷ []) c.refusal_number.result
-    (ap got_means c.in-Refused.is ∙ ap refused (sym c.refusal_number.ensures))
+    a.words.now i.result g.new.self g.new.starts a.ends.now (got_means g.result) i.ensures g.ensures (a.index.now ∷ a.free_indices.now ∷ []) c.from.result
+    (ap got_means c.in-Err.is ∙ ap refused (sym c.from.ensures))
 
-pub returns-in-Given : goal.returns-in-Given
-returns-in-Given c =
+pub returns-in-Ok : goal.returns-in-Ok
+returns-in-Ok c =
     let a = c.args in
-    let i = c.manager_in in
-    let g = c.get-result in
+    let i = c.manager_in-m in
+    let g = c.get in
     rw c.manager_out.ensures
     (call_given (λ m. get_spec m a.starts.now a.ends.now)
-    a.words.now i.result g.result.manager g.new.starts a.ends.now (got_means g.result.answer) i.ensures g.ensures (a.index.now ∷ a.free_indices.now ∷ []) c.in-Given.given.index c.in-Given.given.free
-    (ap got_means c.in-Given.is))
+    a.words.now i.result g.new.self g.new.starts a.ends.now (got_means g.result) i.ensures g.ensures (a.index.now ∷ a.free_indices.now ∷ []) c.in-Ok.given.index c.in-Ok.given.free
+    (ap got_means c.in-Ok.is))

@@ -6,20 +6,20 @@ use Rattle.interval_store_manager.specs.Calls.{is_empty_spec}
 use Rattle.point_store_c.specs.ExportedLaws.{reading_refused, reading_says}
 use Rattle.point_store_c.proofs.manager.ps_manager_is_empty.Goals as goal
 
-pub returns-in-Refused : goal.returns-in-Refused
-returns-in-Refused c =
+pub returns-in-Err : goal.returns-in-Err
+returns-in-Err c =
     let a = c.args in
     let i = c.manager_in in
-    let g = c.is_empty-answer in
+    let g = c.is_empty in
     reading_refused (λ m. is_empty_spec m a.starts.now a.ends.now)
     a.words.now i.result (emptiness_means g.result) i.ensures g.ensures (a.empty.now ∷ [])
-    c.refusal_number.result (ap emptiness_means c.in-Refused.is ∙ ap refused (sym c.refusal_number.ensures))
+    c.from.result (ap emptiness_means c.in-Err.is ∙ ap refused (sym c.from.ensures))
 
-pub returns-in-Empty : goal.returns-in-Empty
-returns-in-Empty c =
+pub returns-in-Ok : goal.returns-in-Ok
+returns-in-Ok c =
     let a = c.args in
     let i = c.manager_in in
-    let g = c.is_empty-answer in
+    let g = c.is_empty in
     reading_says (λ m. is_empty_spec m a.starts.now a.ends.now)
     a.words.now i.result (emptiness_means g.result) i.ensures g.ensures (a.empty.now ∷ [])
-    c.in-Empty.b (ap emptiness_means c.in-Empty.is)
+    c.in-Ok.b (ap emptiness_means c.in-Ok.is)

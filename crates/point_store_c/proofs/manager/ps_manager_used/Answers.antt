@@ -6,20 +6,20 @@ use Rattle.interval_store_manager.specs.Calls.{used_spec}
 use Rattle.point_store_c.specs.ExportedLaws.{reading_refused, reading_holds}
 use Rattle.point_store_c.proofs.manager.ps_manager_used.Goals as goal
 
-pub returns-in-Refused : goal.returns-in-Refused
-returns-in-Refused c =
+pub returns-in-Err : goal.returns-in-Err
+returns-in-Err c =
     let a = c.args in
     let i = c.manager_in in
-    let g = c.used-answer in
+    let g = c.used in
     reading_refused (λ m. used_spec m a.starts.now a.ends.now)
     a.words.now i.result (number_means g.result) i.ensures g.ensures (a.used.now ∷ [])
-    c.refusal_number.result (ap number_means c.in-Refused.is ∙ ap refused (sym c.refusal_number.ensures))
+    c.from.result (ap number_means c.in-Err.is ∙ ap refused (sym c.from.ensures))
 
-pub returns-in-Is : goal.returns-in-Is
-returns-in-Is c =
+pub returns-in-Ok : goal.returns-in-Ok
+returns-in-Ok c =
     let a = c.args in
     let i = c.manager_in in
-    let g = c.used-answer in
+    let g = c.used in
     reading_holds (λ m. used_spec m a.starts.now a.ends.now)
     a.words.now i.result (number_means g.result) i.ensures g.ensures (a.used.now ∷ [])
-    c.in-Is.n (ap number_means c.in-Is.is)
+    c.in-Ok.n (ap number_means c.in-Ok.is)

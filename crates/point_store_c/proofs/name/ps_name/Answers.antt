@@ -5,7 +5,7 @@ use Rattle.point_store_c.proofs.name.ps_name.Goals as goal
 pub returns-then-out-lt80 : goal.returns-then-out-lt80
 returns-then-out-lt80 c =
     let a = c.args in
-    name_refused a.out.now a.name_length.now c.refusal_number.result c.if-out-lt80.true c.refusal_number.ensures
+    name_refused a.out.now a.name_length.now c.from.result c.if-out-lt80.true c.from.ensures
 
 pub returns : goal.returns
 unfolding name_text

@@ -13,4 +13,4 @@ returns c =
     let g = c.page-answer in
     let o = c.number_out in
     page_exported a.words.now (memory a.store.now a.last_known_shingle.now a.reference_count.now a.location.now a.index_starts.now a.index_ends.now a.labels.now a.label_attributes.now a.label_count.now a.label_starts.now a.label_ends.now a.attributes.now a.attribute_count.now a.attribute_starts.now a.attribute_ends.now) i.result i.ensures
-    (λ p. page_spec p a.text.now) (number_means g.result) g.new.text g.ensures (a.page_length.now ∷ []) (o.new.number ∷ []) o.result o.ensures
+    (λ p. page_spec p a.text.now) (number_means g.result) g.new.text (rw (c.new-tables.ensures a.store.now a.last_known_shingle.now) at g.ensures) (a.page_length.now ∷ []) (o.new.number ∷ []) o.result o.ensures

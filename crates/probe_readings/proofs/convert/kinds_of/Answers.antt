@@ -1,31 +1,19 @@
--- The invariant: the first k entries are made.
-use native.Mathlib.Omega.{arith}
-use mathlib.Core.Path.{◌≡◌, sym, ◌∙◌}
-use lib.ListN.{length, length-set}
-use borrow.Author.Rules.{rules}
-use Rattle.probe_readings.specs.Kinds.{kinds_of, kinds_of_length}
-use Rattle.probe_readings.specs.Entries.{written_more, written_all, kinds_at}
+-- Entry by entry.
+use Rattle.std.proofs.Common.{arith, rules, sym, ◌∙◌, ◌≡◌, length, get_or}
+use Rattle.std.proofs.lemmas.List.{ext_get_or}
+use Rattle.probes_definitions.specs.declared.Reading.TheVariants.{Absent}
+use Rattle.probe_readings.specs.Kinds.{kind_of, kinds_of, kinds_of_length}
+use Rattle.probe_readings.specs.Entries.{kinds_at}
 use Rattle.probe_readings.proofs.convert.kinds_of.Goals as goal
-
-pub loop-k-preserved : goal.loop-k-preserved
-loop-k-preserved c =
-    let a = c.args in
-    let l = c.loop-k in
-    let n : length a.set ≡ 8 = search rules in
-    let below = c.loop-k-test.true in (
-      omega (arith, below),
-      (
-        length-set l.kinds l.k _ ∙ l.invariant.1.0,
-        written_more (kinds_of a.set) l.kinds l.k _ (omega (arith, below, n, kinds_of_length a.set)) (omega (arith, below, l.invariant.1.0))
-            (c.kind_of.ensures ∙ sym (kinds_at _ a.set l.k (omega (arith, below, n))))
-            l.invariant.1.1,
-      ),
-    )
 
 pub returns : goal.returns
 returns c =
     let a = c.args in
-    let l = c.loop-k in
+    let items = c.map.ensures.items in
     let n : length a.set ≡ 8 = search rules in
-    let past = c.loop-k-test.false in
-    (written_all (kinds_of a.set) l.kinds l.k (omega (arith, past, n, kinds_of_length a.set)) (omega (arith, past, l.invariant.1.0)) l.invariant.1.1, n)
+    let long : length c.map.result ≡ length (kinds_of a.set) = items.long ∙ sym n ∙ sym (kinds_of_length a.set) in
+    let same = ext_get_or 0 c.map.result (kinds_of a.set) long
+    (λ i h.
+    let e : get_or c.map.result i 0 ≡ kind_of (get_or a.set i Absent) = search (rules, items.at i Absent 0 (omega (arith, h, items.long))) in
+    e ∙ sym (kinds_at Absent a.set i (omega (arith, h, items.long, n)))) in
+    (same, n)

@@ -16,13 +16,10 @@ loop-k-preserved c =
     let q = s.requires in
     let same = q.1.0 ∙ sym q.1.1 in
     let long = filled_length (of_kinds a.kinds.now a.words.now) a.last.now (omega (arith, kinds_length a.kinds.now a.words.now same, q.0, q.1.0)) ∙ kinds_length a.kinds.now a.words.now same ∙ q.1.0 in (
-      omega (arith, below),
-      (
-        length-set l.set l.k c.word_stored.result ∙ l.invariant.1.0,
-        written_more (filled (of_kinds a.kinds.now a.words.now) a.last.now) l.set l.k c.word_stored.result (omega (arith, below, long)) (omega (arith, below, l.invariant.1.0))
-            (c.word_stored.ensures ∙ sym (filled_at a.kinds.now a.words.now a.last.now l.k (omega (arith, below, q.1.0)) (omega (arith, below, q.1.1)) (omega (arith, below, q.0))))
-            l.invariant.1.1,
-      ),
+      length-set l.set l.k c.word_stored.result ∙ l.invariant.0,
+      written_more (filled (of_kinds a.kinds.now a.words.now) a.last.now) l.set l.k c.word_stored.result (omega (arith, below, long)) (omega (arith, below, l.invariant.0))
+          (c.word_stored.ensures ∙ sym (filled_at a.kinds.now a.words.now a.last.now l.k (omega (arith, below, q.1.0)) (omega (arith, below, q.1.1)) (omega (arith, below, q.0))))
+          l.invariant.1,
     )
 
 pub returns : goal.returns
@@ -34,4 +31,4 @@ returns c =
     let same = q.1.0 ∙ sym q.1.1 in
     let long = filled_length (of_kinds a.kinds.now a.words.now) a.last.now (omega (arith, kinds_length a.kinds.now a.words.now same, q.0, q.1.0)) ∙ kinds_length a.kinds.now a.words.now same ∙ q.1.0 in
     let past = c.loop-k-test.false in
-    written_all (filled (of_kinds a.kinds.now a.words.now) a.last.now) l.set l.k (omega (arith, past, long)) (omega (arith, past, l.invariant.1.0)) l.invariant.1.1
+    written_all (filled (of_kinds a.kinds.now a.words.now) a.last.now) l.set l.k (omega (arith, past, long)) (omega (arith, past, l.invariant.0)) l.invariant.1

@@ -15,13 +15,10 @@ loop-k-preserved c =
     let l = c.loop-k in
     let n : length a.tallies ≡ 8 = search rules in
     let below = c.loop-k-test.true in (
-      omega (arith, below),
-      (
-        length-set l.counted l.k _ ∙ l.invariant.1.0,
-        written_more (tallied_kinds a.kinds.now a.tallies) l.counted l.k _ (omega (arith, below, n, tallied_long a.kinds.now a.tallies)) (omega (arith, below, l.invariant.1.0))
-            (ap (λ x. get_or a.tallies l.k 0 + x) c.estimate_of.ensures ∙ sym (tallied_entry a.kinds.now a.tallies l.k (omega (arith, below, s.requires.0)) (omega (arith, below, n))))
-            l.invariant.1.1,
-      ),
+      length-set l.counted l.k _ ∙ l.invariant.0,
+      written_more (tallied_kinds a.kinds.now a.tallies) l.counted l.k _ (omega (arith, below, n, tallied_long a.kinds.now a.tallies)) (omega (arith, below, l.invariant.0))
+          (ap (λ x. get_or a.tallies l.k 0 + x) c.estimate_of.ensures ∙ sym (tallied_entry a.kinds.now a.tallies l.k (omega (arith, below, s.requires.0)) (omega (arith, below, n))))
+          l.invariant.1,
     )
 
 pub returns : goal.returns
@@ -30,4 +27,4 @@ returns c =
     let l = c.loop-k in
     let n : length a.tallies ≡ 8 = search rules in
     let past = c.loop-k-test.false in
-    written_all (tallied_kinds a.kinds.now a.tallies) l.counted l.k (omega (arith, past, n, tallied_long a.kinds.now a.tallies)) (omega (arith, past, l.invariant.1.0)) l.invariant.1.1
+    written_all (tallied_kinds a.kinds.now a.tallies) l.counted l.k (omega (arith, past, n, tallied_long a.kinds.now a.tallies)) (omega (arith, past, l.invariant.0)) l.invariant.1

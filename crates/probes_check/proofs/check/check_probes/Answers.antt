@@ -1,33 +1,27 @@
--- The store's check, the shape, and then the tallies.
-use mathlib.Core.Bool.{false≢true}
-use mathlib.Core.Path.{sym, ◌∙◌}
-use Rattle.store_definitions.specs.Lent.{held}
-use Rattle.store_check.specs.CheckLaws.{well_formed_lengths}
-use Rattle.store_check.specs.Figures.{figures_filled}
-use Rattle.probes_definitions.specs.Memory.{point_probes}
-use Rattle.probes_check.specs.CheckLaws.{shingle_positive, ill_store, ill_shape, by_tallies}
+-- The store's check, and then the product's own tests.
+use Rattle.std.proofs.Common.{sym, ◌∙◌}
+use Rattle.store_definitions.specs.Lent.{lent}
+use Rattle.store_check.specs.Checked.{checked_lengths, checked_some}
+use Rattle.probes_definitions.specs.Memory.{point_probes, store_of}
+use Rattle.probes_check.specs.CheckLaws.{shingle_positive}
+use Rattle.probes_check.specs.Checked.{store_ill, by_tests}
 use Rattle.probes_check.proofs.check.check_probes.Goals as goal
 
-pub eight_probes-requires : goal.eight_probes-requires
-eight_probes-requires c =
+pub eight_probes-eight-requires : goal.eight_probes-eight-requires
+eight_probes-eight-requires c =
     let a = c.args in
-    let p = point_probes a.p (held a.store.now a.last_known_shingle.now a.reference_count.now a.location.now a.index_starts.now a.index_ends.now a.labels.now a.label_attributes.now a.label_count.now a.label_starts.now a.label_ends.now a.attributes.now a.attribute_count.now a.attribute_starts.now a.attribute_ends.now) in
-    shingle_positive p (sym (c.check-checked.ensures.0 ∙ well_formed_lengths a.p.store p.memory) ∙ c.if-well.true)
+    let p = point_probes a.p (lent a.store.now a.last_known_shingle.now a.tables) in
+    shingle_positive p (checked_some (store_of p) _ (sym (c.check.ensures ∙ checked_lengths a.p.store p.memory) ∙ c.in_ok-figures.was)).0
 
-pub returns-then-eight_probes : goal.returns-then-eight_probes
-returns-then-eight_probes c =
+pub returns-in_err-figures : goal.returns-in_err-figures
+returns-in_err-figures c =
     let a = c.args in
-    let p = point_probes a.p (held a.store.now a.last_known_shingle.now a.reference_count.now a.location.now a.index_starts.now a.index_ends.now a.labels.now a.label_attributes.now a.label_count.now a.label_starts.now a.label_ends.now a.attributes.now a.attribute_count.now a.attribute_starts.now a.attribute_ends.now) in
-    (c.tallies_within-ok.ensures.0 ∙ by_tallies p (sym (c.check-checked.ensures.0 ∙ well_formed_lengths a.p.store p.memory) ∙ c.if-well.true) (sym c.eight_probes.ensures ∙ c.if-eight_probes.true) c.tallies_within-ok.ensures.1, λ e. figures_filled a.p.store p.memory _ (c.check-checked.ensures.1 c.if-well.true))
+    let p = point_probes a.p (lent a.store.now a.last_known_shingle.now a.tables) in
+    rw c.from_residual.ensures (store_ill p (sym (c.check.ensures ∙ checked_lengths a.p.store p.memory) ∙ c.in_err-figures.was))
 
-pub returns-else-eight_probes : goal.returns-else-eight_probes
-returns-else-eight_probes c =
+pub returns : goal.returns
+returns c =
     let a = c.args in
-    let p = point_probes a.p (held a.store.now a.last_known_shingle.now a.reference_count.now a.location.now a.index_starts.now a.index_ends.now a.labels.now a.label_attributes.now a.label_count.now a.label_starts.now a.label_ends.now a.attributes.now a.attribute_count.now a.attribute_starts.now a.attribute_ends.now) in
-    (ill_shape p (sym (c.check-checked.ensures.0 ∙ well_formed_lengths a.p.store p.memory) ∙ c.if-well.true) (sym c.eight_probes.ensures ∙ c.if-eight_probes.false), λ e. absurd (false≢true e))
-
-pub returns-else-well : goal.returns-else-well
-returns-else-well c =
-    let a = c.args in
-    let p = point_probes a.p (held a.store.now a.last_known_shingle.now a.reference_count.now a.location.now a.index_starts.now a.index_ends.now a.labels.now a.label_attributes.now a.label_count.now a.label_starts.now a.label_ends.now a.attributes.now a.attribute_count.now a.attribute_starts.now a.attribute_ends.now) in
-    (ill_store p (sym (c.check-checked.ensures.0 ∙ well_formed_lengths a.p.store p.memory) ∙ c.if-well.false), λ e. absurd (false≢true e))
+    let p = point_probes a.p (lent a.store.now a.last_known_shingle.now a.tables) in
+    rw (c.then_some.ensures, c.eight_probes-eight.ensures, c.tallies_within-within.ensures.0)
+    (by_tests p _ (sym (c.check.ensures ∙ checked_lengths a.p.store p.memory) ∙ c.in_ok-figures.was) c.tallies_within-within.ensures.1)

@@ -13,21 +13,19 @@ use Rattle.probes_check.proofs.check.tallies_within.Goals as goal
 
 pub loop-k-init : goal.loop-k-init
 unfolding every_below
-loop-k-init c = (omega arith, refl)
+loop-k-init c = refl
 
 pub loop-k-preserved : goal.loop-k-preserved
 loop-k-preserved c =
     let a = c.args in
-    let l = c.loop-k in (
-      omega (arith, c.loop-k-test.true),
-      ap (λ (b : Bool). b && leb (get_or a.tallies l.k 0) a.sequence) l.invariant.1 ∙ sym (every_more l.k (λ j. leb (get_or a.tallies j 0) a.sequence)),
-    )
+    let l = c.loop-k in
+    ap (λ (b : Bool). b && leb (get_or a.tallies l.k 0) a.sequence) l.invariant ∙ sym (every_more l.k (λ j. leb (get_or a.tallies j 0) a.sequence))
 
 pub returns : goal.returns
 unfolding tallies_within
 returns c =
     let a = c.args in
     let l = c.loop-k in
-    let e : l.k ≡ 8 = omega (arith, l.invariant.0) in
+    let e : l.k ≡ 8 = omega arith in
     let eight : length a.tallies ≡ 8 = search rules in
-    (l.invariant.1 ∙ ap (λ (n : ℕ). every_below n (λ j. leb (get_or a.tallies j 0) a.sequence)) e, eight)
+    (l.invariant ∙ ap (λ (n : ℕ). every_below n (λ j. leb (get_or a.tallies j 0) a.sequence)) e, eight)

@@ -1,5 +1,4 @@
 -- The invariant: what was found of the first k.
-use Prim.Native.Nat.{◌-◌, ◌≤◌}
 use mathlib.Core.Path.{◌≡◌}
 use lib.ListN.{get_or}
 use lib.Dec.{leb}
@@ -7,7 +6,4 @@ use Rattle.terms.specs.Below.{every_below}
 use Rattle.probes_check.proofs.check.tallies_within.Given as goal
 
 abbrev pub invariant-loop-k : goal.invariant-loop-k
-invariant-loop-k l = (l.k ≤ 8) × (l.within ≡ every_below l.k (λ j. leb (get_or l.tallies j 0) l.sequence))
-
-abbrev pub decreases-loop-k : goal.decreases-loop-k
-decreases-loop-k l = 8 - l.k
+invariant-loop-k l = l.within ≡ every_below l.k (λ j. leb (get_or l.tallies j 0) l.sequence)

@@ -1,5 +1,5 @@
 -- The loop's invariant: the first i entries are written.
-use Prim.Native.Nat.{◌+◌, ◌-◌, ◌≤◌}
+use Prim.Native.Nat.{◌+◌}
 use mathlib.Core.List.{[], map}
 use mathlib.Core.Path.{◌≡◌}
 use lib.ListN.{length, take}
@@ -7,7 +7,4 @@ use Rattle.store_definitions.specs.IndexLists.{up_to}
 use Rattle.row_readings.proofs.index_list.count_from.Given as goal
 
 abbrev pub invariant-loop-i : goal.invariant-loop-i
-invariant-loop-i l = (l.i ≤ length l.out) × (length l.out ≡ length l.initial.out) × (take l.i l.out ≡ map (λ v. l.first + v) (up_to l.i []))
-
-abbrev pub decreases-loop-i : goal.decreases-loop-i
-decreases-loop-i l = length l.out - l.i
+invariant-loop-i l = (length l.out ≡ length l.initial.out) × (take l.i l.out ≡ map (λ v. l.first + v) (up_to l.i []))

@@ -16,32 +16,26 @@ tested s limit values l e t = ap (λ (n : ℕ). values_below n values) (sym l) �
 
 pub returns-then-out-values : goal.returns-then-out-values
 returns-then-out-values c =
-    let at = c in
-    let a = at.args in
+    let a = c.args in
     other_count a.s a.look_ahead a.values.now a.out.now c.if-out-values.true
 
 pub returns-then-look_ahead-gt-LARGEST_LOOK_AHEAD : goal.returns-then-look_ahead-gt-LARGEST_LOOK_AHEAD
 returns-then-look_ahead-gt-LARGEST_LOOK_AHEAD c =
-    let at = c in
-    let a = at.args in
+    let a = c.args in
     far_ahead a.s a.look_ahead a.values.now a.out.now c.if-out-values.false c.if-look_ahead-gt-LARGEST_LOOK_AHEAD.true
+
+pub returns-then-not-values_below : goal.returns-then-not-values_below
+returns-then-not-values_below c =
+    let a = c.args in
+    value_above a.s a.look_ahead a.values.now a.out.now c.if-out-values.false c.if-look_ahead-gt-LARGEST_LOOK_AHEAD.false (tested a.s c.value_limit.result a.values.now c.value_limit.ensures c.values_below.ensures c.if-not-values_below.true)
 
 pub move_values-requires : goal.move_values-requires
 move_values-requires c =
-    let at = c in
-    let a = at.args in
-    let pass = (tested a.s c.value_limit-limit.result a.values.now c.value_limit-limit.ensures c.values_below.ensures c.if-values_below.true) in
-    let first = c.first_index-first in
-    (c.if-out-values.false, λ i h. omega (arith, below_at (value_limit a.s) a.values.now pass i h, first.ensures.room, at.requires.dims_most))
-
-pub returns-then-values_below : goal.returns-then-values_below
-returns-then-values_below c =
-    let at = c in
-    let a = at.args in
-    list_written a.s a.look_ahead a.values.now a.out.now c.if-out-values.false c.if-look_ahead-gt-LARGEST_LOOK_AHEAD.false c.first_index-first.result c.move_values.new.out c.first_index-first.ensures (tested a.s c.value_limit-limit.result a.values.now c.value_limit-limit.ensures c.values_below.ensures c.if-values_below.true) c.move_values.ensures
+    let a = c.args in
+    let pass = (tested a.s c.value_limit.result a.values.now c.value_limit.ensures c.values_below.ensures c.if-not-values_below.false) in
+    (c.if-out-values.false, λ i h. omega (arith, below_at (value_limit a.s) a.values.now pass i h, c.first_index.ensures.room, c.requires.dims_most))
 
 pub returns : goal.returns
 returns c =
-    let at = c in
-    let a = at.args in
-    value_above a.s a.look_ahead a.values.now a.out.now c.if-out-values.false c.if-look_ahead-gt-LARGEST_LOOK_AHEAD.false (tested a.s c.value_limit-limit.result a.values.now c.value_limit-limit.ensures c.values_below.ensures c.if-values_below.false)
+    let a = c.args in
+    list_written a.s a.look_ahead a.values.now a.out.now c.if-out-values.false c.if-look_ahead-gt-LARGEST_LOOK_AHEAD.false c.first_index.result c.move_values.new.out c.first_index.ensures (tested a.s c.value_limit.result a.values.now c.value_limit.ensures c.values_below.ensures c.if-not-values_below.false) c.move_values.ensures

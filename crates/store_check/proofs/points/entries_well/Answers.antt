@@ -1,5 +1,4 @@
 -- The invariant: what holds of the entries below i.
-use native.Mathlib.Omega.{arith}
 use mathlib.Core.Path.{refl}
 use Rattle.terms.specs.Below.{every_below}
 use Rattle.store_check.specs.Entries.{entries_well}
@@ -8,10 +7,8 @@ use Rattle.store_check.proofs.points.entries_well.Goals as goal
 
 pub loop-i-init : goal.loop-i-init
 unfolding entries_well every_below
-loop-i-init c = (omega arith, refl)
+loop-i-init c = refl
 
 pub loop-i-preserved : goal.loop-i-preserved
-loop-i-preserved c = (
-  omega arith,
-  entries_more c.loop-i.i c.args.limit c.args.marks.now c.args.reference_count.now c.args.location.now c.loop-i.ok c.entry_well-well.result c.loop-i.invariant.1 c.entry_well-well.ensures,
-)
+loop-i-preserved c =
+    entries_more c.loop-i.i c.args.limit c.args.marks.now c.args.reference_count.now c.args.location.now c.loop-i.ok c.entry_well-ok.result c.loop-i.invariant c.entry_well-ok.ensures

@@ -1,8 +1,8 @@
 -- Each way out is one of the laws of `TableLaws`.
 use native.Mathlib.Omega.{arith}
 use Rattle.store_laws.specs.BoundsLaws.{in_bounds, base_some}
-use mathlib.Core.Path.{sym, ◌∙◌}
-use Rattle.store_check.proofs.TableLaws.{all_or_live, entries_pass, entries_fail, manager_fails}
+use mathlib.Core.Path.{refl, sym, ◌∙◌}
+use Rattle.store_check.proofs.TableLaws.{all_or_live, entries_decide, entries_pass, manager_fails}
 use Rattle.store_check.proofs.table.marked_well.Goals as goal
 
 pub nonzero_div-base : goal.nonzero_div-base
@@ -17,20 +17,23 @@ pub overflow_sub-result : goal.overflow_sub-result
 overflow_sub-result c =
     let live =
     let a = c.args in
-    all_or_live a.s a.reference_count.now a.location.now a.index_starts.now a.index_ends.now _ c.requires.0 _ _ _ c.mark_free-checked.ensures c.place_limit-limit.ensures c.if-managed.true (sym c.entries_well.ensures ∙ c.if-entries_well.true) in
+    all_or_live a.s a.reference_count.now a.location.now a.index_starts.now a.index_ends.now _ c.requires.0 _ _ c.mark_free.ensures c.place_limit-limit.ensures _ c.in-Some.is (sym c.entries_well.ensures ∙ c.if-entries_well.true) in
     omega (arith, live)
 
 pub returns-then-entries_well : goal.returns-then-entries_well
 returns-then-entries_well c =
     let a = c.args in
-    entries_pass a.s a.reference_count.now a.location.now a.index_starts.now a.index_ends.now _ c.requires.0 _ _ _ c.mark_free-checked.ensures c.place_limit-limit.ensures c.if-managed.true (sym c.entries_well.ensures ∙ c.if-entries_well.true)
+    let e = sym c.entries_well.ensures ∙ c.if-entries_well.true in (
+      entries_decide a.s a.reference_count.now a.location.now a.index_starts.now a.index_ends.now _ c.requires.0 _ _ c.mark_free.ensures c.place_limit-limit.ensures _ c.in-Some.is e,
+      entries_pass a.s a.reference_count.now a.location.now a.index_starts.now a.index_ends.now _ c.requires.0 _ _ c.mark_free.ensures c.place_limit-limit.ensures _ c.in-Some.is e,
+    )
 
 pub returns-else-entries_well : goal.returns-else-entries_well
 returns-else-entries_well c =
     let a = c.args in
-    entries_fail a.s a.reference_count.now a.location.now a.index_starts.now a.index_ends.now _ c.requires.0 _ _ _ c.mark_free-checked.ensures c.place_limit-limit.ensures c.if-managed.true (sym c.entries_well.ensures ∙ c.if-entries_well.false)
+    (entries_decide a.s a.reference_count.now a.location.now a.index_starts.now a.index_ends.now _ c.requires.0 _ _ c.mark_free.ensures c.place_limit-limit.ensures _ c.in-Some.is (sym c.entries_well.ensures ∙ c.if-entries_well.false), tt)
 
-pub returns-else-managed : goal.returns-else-managed
-returns-else-managed c =
+pub returns-in_default : goal.returns-in_default
+returns-in_default c =
     let a = c.args in
-    manager_fails a.s a.reference_count.now a.location.now a.index_starts.now a.index_ends.now _ c.requires.0 _ _ _ c.mark_free-checked.ensures c.place_limit-limit.ensures c.if-managed.false
+    (manager_fails a.s a.reference_count.now a.location.now a.index_starts.now a.index_ends.now _ c.requires.0 _ _ c.in_default.ensures c.place_limit-limit.ensures refl, tt)

@@ -1,26 +1,19 @@
 -- Where the table is well-formed, the places decide.
-use mathlib.Core.Bool.{Bool, ◌&&◌, false≢true}
-use mathlib.Core.Path.{sym, ◌∙◌, ap}
-use Rattle.store_definitions.specs.WellFormed.{places_distinct}
+use mathlib.Core.Bool.{true, false, false≢true}
+use mathlib.Core.Path.{refl, ◌∙◌}
 use Rattle.store_definitions.specs.Parts.{table_length}
-use Rattle.store_check.specs.PointsTest.{points_are}
+use Rattle.store_definitions.specs.WellFormed.{places_distinct}
+use Rattle.store_check.specs.PointsTest.{points_decide}
 use Rattle.store_check.proofs.table.points_well.Goals as goal
 
-pub returns-then-well : goal.returns-then-well
-returns-then-well c =
+pub returns-in_err-table : goal.returns-in_err-table
+returns-in_err-table c =
     let a = c.args in
-    let f = c.table_well-table.ensures in (
-      c.places_distinct-ok.ensures
-          ∙ (ap (λ (b : Bool). b && places_distinct (table_length a.s) a.location.now) (sym c.if-well.true ∙ f.is)
-          ∙ points_are a.s a.reference_count.now a.location.now a.index_starts.now a.index_ends.now),
-      λ e. f.live_is c.if-well.true,
-    )
+    let f = c.in_err-table.ensures in
+    c.from_residual.ensures ∙ points_decide a.s a.reference_count.now a.location.now a.index_starts.now a.index_ends.now false (places_distinct (table_length a.s) a.location.now) 0 f.0 refl (λ t. absurd (false≢true t))
 
 pub returns : goal.returns
 returns c =
     let a = c.args in
-    let f = c.table_well-table.ensures in (
-      ap (λ (b : Bool). b && places_distinct (table_length a.s) a.location.now) (sym c.if-well.false ∙ f.is)
-          ∙ points_are a.s a.reference_count.now a.location.now a.index_starts.now a.index_ends.now,
-      λ e. absurd (false≢true e),
-    )
+    let f = c.in_ok-table.ensures in
+    c.then_some.ensures ∙ points_decide a.s a.reference_count.now a.location.now a.index_starts.now a.index_ends.now true c.places_distinct.result c.in_ok-table.table.live f.0 c.places_distinct.ensures (λ t. f.1.live_is)

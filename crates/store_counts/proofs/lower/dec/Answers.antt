@@ -1,21 +1,11 @@
--- The check, then the call on the tables: it does the same whatever the elements are.
-use mathlib.Core.Path.{sym, ◌∙◌, ap}
-use Rattle.store_definitions.specs.Answers.{Outcome}
+-- The call on the tables does the same whatever the elements are.
+use mathlib.Core.Path.{refl}
 use Rattle.store_definitions.specs.Lent.{held}
-use Rattle.store_definitions.specs.Memory.{point_store}
-use Rattle.store_check.specs.CheckLaws.{well_formed_lengths}
-use Rattle.store_counts.specs.Elements.{refilled_outcome, dec_same}
-use Rattle.store_laws.specs.IllFormedLaws.{dec_ill}
+use Rattle.store_counts.specs.Elements.{dec_whole}
 use Rattle.store_counts.proofs.lower.dec.Goals as goal
-
-pub returns-then-well : goal.returns-then-well
-returns-then-well c =
-    let a = c.args in
-    let m = (held a.store.now a.last_known_shingle.now a.reference_count.now a.location.now a.index_starts.now a.index_ends.now a.labels.now a.label_attributes.now a.label_count.now a.label_starts.now a.label_ends.now a.attributes.now a.attribute_count.now a.attribute_starts.now a.attribute_ends.now) in
-    ap (λ (o : Outcome (Unit {0})). refilled_outcome a.store.now a.last_known_shingle.now o) c.dec_unchecked.ensures ∙ dec_same a.s m a.index.0 a.label.0
 
 pub returns : goal.returns
 returns c =
     let a = c.args in
-    let m = (held a.store.now a.last_known_shingle.now a.reference_count.now a.location.now a.index_starts.now a.index_ends.now a.labels.now a.label_attributes.now a.label_count.now a.label_starts.now a.label_ends.now a.attributes.now a.attribute_count.now a.attribute_starts.now a.attribute_ends.now) in
-    sym (dec_ill (point_store a.s m) (sym (c.check-checked.ensures.0 ∙ well_formed_lengths a.s m) ∙ c.if-well.false) a.index.0 a.label.0)
+    let m = held a.store.now a.last_known_shingle.now a.reference_count.now a.location.now a.index_starts.now a.index_ends.now a.labels.now a.label_attributes.now a.label_count.now a.label_starts.now a.label_ends.now a.attributes.now a.attribute_count.now a.attribute_starts.now a.attribute_ends.now in
+    dec_whole a.s.now c.dec_unchecked.new.s m _ refl refl _ a.index.0 a.label.0 c.dec_unchecked.ensures

@@ -7,11 +7,11 @@ use Rattle.store_counts.proofs.lower.lower_point.Goals as goal
 pub returns-then-count-eq1 : goal.returns-then-count-eq1
 returns-then-count-eq1 c =
     let a = c.args in
-    let t = counted a.manager a.reference_count.now a.index_starts.now a.index_ends.now in
+    let t = counted a.manager.now a.reference_count.now a.index_starts.now a.index_ends.now in
     (lowered_released t a.index.0 _ _ _ c.if-count-eq1.true c.release_unchecked.ensures, emptied_last a.reference_count.now a.location.now a.index.0 c.if-count-eq1.true)
 
-pub returns : goal.returns
-returns c =
+pub returns-else-count-eq1 : goal.returns-else-count-eq1
+returns-else-count-eq1 c =
     let a = c.args in
-    let t = counted a.manager a.reference_count.now a.index_starts.now a.index_ends.now in
+    let t = counted a.manager.now a.reference_count.now a.index_starts.now a.index_ends.now in
     (lowered_kept t a.index.0 c.if-count-eq1.false, emptied_kept a.reference_count.now a.location.now a.index.0 c.if-count-eq1.false)

@@ -1,29 +1,23 @@
--- The check decides between the two laws of `IndexReadings`.
-use mathlib.Core.Bool.{true, false}
-use mathlib.Core.Path.{sym, ◌∙◌}
-use Rattle.store_definitions.specs.Lent.{held}
-use Rattle.store_definitions.specs.Memory.{point_store}
+-- What the check shows is what the list relies on.
+use Rattle.std.proofs.Common.{sym, ◌∙◌}
+use Rattle.terms.specs.declared.Refusal.{Refusal}
 use Rattle.row_readings.specs.Shingled.{shingled}
 use Rattle.row_readings.specs.IndexReadings.{next_checked}
-use Rattle.store_laws.specs.IllFormedLaws.{next_ill}
-use Rattle.store_rows.specs.Checked.{checked_is}
+use Rattle.store_definitions.specs.Lent.{lent}
+use Rattle.store_definitions.specs.Memory.{point_store}
+use Rattle.store_check.specs.Checked.{check_passed}
 use Rattle.store_readings.proofs.index_calls.next_indices.Goals as goal
 
 pub next_indices_unchecked-requires : goal.next_indices_unchecked-requires
 next_indices_unchecked-requires c =
     let a = c.args in
-    let m = held a.store.now a.last_known_shingle.now a.reference_count.now a.location.now a.index_starts.now a.index_ends.now a.labels.now a.label_attributes.now a.label_count.now a.label_starts.now a.label_ends.now a.attributes.now a.attribute_count.now a.attribute_starts.now a.attribute_ends.now in
-    (shingled (point_store a.s m) (checked_is a.s m c.check-checked.result.ok true c.check-checked.ensures.0 c.if-well.true)).0
-
-pub returns-then-well : goal.returns-then-well
-returns-then-well c =
-    let a = c.args in
-    let m = held a.store.now a.last_known_shingle.now a.reference_count.now a.location.now a.index_starts.now a.index_ends.now a.labels.now a.label_attributes.now a.label_count.now a.label_starts.now a.label_ends.now a.attributes.now a.attribute_count.now a.attribute_starts.now a.attribute_ends.now in
-    c.next_indices_unchecked.ensures
-    ∙ next_checked (point_store a.s m) a.look_ahead a.out.now (checked_is a.s m c.check-checked.result.ok true c.check-checked.ensures.0 c.if-well.true)
+    let m = lent a.store.now a.last_known_shingle.now a.tables in
+    let well = (check_passed a.s m c.check.result Refusal.IllFormed c.check.ensures _ (sym c.ok_or.ensures.value ∙ c.in_ok-ok_or.was)).0 in
+    (shingled (point_store a.s m) well).0
 
 pub returns : goal.returns
 returns c =
     let a = c.args in
-    let m = held a.store.now a.last_known_shingle.now a.reference_count.now a.location.now a.index_starts.now a.index_ends.now a.labels.now a.label_attributes.now a.label_count.now a.label_starts.now a.label_ends.now a.attributes.now a.attribute_count.now a.attribute_starts.now a.attribute_ends.now in
-    sym (next_ill (point_store a.s m) (checked_is a.s m c.check-checked.result.ok false c.check-checked.ensures.0 c.if-well.false) a.look_ahead a.out.now)
+    let m = lent a.store.now a.last_known_shingle.now a.tables in
+    let well = (check_passed a.s m c.check.result Refusal.IllFormed c.check.ensures _ (sym c.ok_or.ensures.value ∙ c.in_ok-ok_or.was)).0 in
+    c.next_indices_unchecked.ensures ∙ next_checked (point_store a.s m) a.look_ahead a.out.now well

@@ -1,22 +1,16 @@
--- The check decides between two laws of `LabelLaws`.
-use mathlib.Core.Bool.{true, false}
-use mathlib.Core.Path.{sym, ◌∙◌}
+-- The answer of the label half is the store's.
+use Rattle.std.proofs.Common.{sym, ◌∙◌}
+use Rattle.terms.specs.declared.Refusal.{Refusal}
 use Rattle.labels.specs.Readings.{label_read_means}
-use Rattle.store_definitions.specs.Lent.{held}
+use Rattle.store_readings.specs.LabelLaws.{number_told, attribute_checked}
+use Rattle.store_definitions.specs.Lent.{lent}
 use Rattle.store_definitions.specs.Memory.{point_store}
-use Rattle.store_laws.specs.IllFormedLaws.{attribute_ill}
-use Rattle.store_rows.specs.Checked.{checked_is}
-use Rattle.store_readings.specs.LabelLaws.{attribute_checked}
+use Rattle.store_check.specs.Checked.{check_passed}
 use Rattle.store_readings.proofs.label_readings.attribute.Goals as goal
-
-pub returns-then-well : goal.returns-then-well
-returns-then-well c =
-    let a = c.args in
-    let m = (held a.store.now a.last_known_shingle.now a.reference_count.now a.location.now a.index_starts.now a.index_ends.now a.labels.now a.label_attributes.now a.label_count.now a.label_starts.now a.label_ends.now a.attributes.now a.attribute_count.now a.attribute_starts.now a.attribute_ends.now) in
-    c.number_read.ensures ∙ attribute_checked (point_store a.s m) a.label.0 (checked_is a.s m c.check-checked.result.ok true c.check-checked.ensures.0 c.if-well.true) (label_read_means c.attribute-read.result) c.attribute-read.ensures
 
 pub returns : goal.returns
 returns c =
     let a = c.args in
-    let m = (held a.store.now a.last_known_shingle.now a.reference_count.now a.location.now a.index_starts.now a.index_ends.now a.labels.now a.label_attributes.now a.label_count.now a.label_starts.now a.label_ends.now a.attributes.now a.attribute_count.now a.attribute_starts.now a.attribute_ends.now) in
-    sym (attribute_ill (point_store a.s m) (checked_is a.s m c.check-checked.result.ok false c.check-checked.ensures.0 c.if-well.false) a.label.0)
+    let m = lent a.store.now a.last_known_shingle.now a.tables in
+    let well = (check_passed a.s m c.check.result Refusal.IllFormed c.check.ensures _ (sym c.ok_or.ensures.value ∙ c.in_ok-ok_or.was)).0 in
+    number_told c.attribute.result ∙ attribute_checked (point_store a.s m) a.label.0 well (label_read_means c.attribute.result) c.attribute.ensures

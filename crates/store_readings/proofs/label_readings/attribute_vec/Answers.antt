@@ -1,24 +1,18 @@
--- The check decides between two laws of `LabelLaws`.
-use mathlib.Core.Bool.{true, false}
-use mathlib.Core.Path.{ap, sym, ◌∙◌}
+-- The answer of the label half is the store's.
+use Rattle.std.proofs.Common.{ap, sym, ◌∙◌}
+use Rattle.terms.specs.declared.Refusal.{Refusal}
 use Rattle.labels.specs.Readings.{vector_read_means}
 use Rattle.store_definitions.specs.Answers.{Answer, output}
-use Rattle.store_definitions.specs.Lent.{held}
+use Rattle.store_readings.specs.LabelLaws.{vector_told, vec_checked}
+use Rattle.store_definitions.specs.Lent.{lent}
 use Rattle.store_definitions.specs.Memory.{point_store}
-use Rattle.store_laws.specs.IllFormedLaws.{attribute_vec_ill}
-use Rattle.store_rows.specs.Checked.{checked_is}
-use Rattle.store_readings.specs.LabelLaws.{vec_checked}
+use Rattle.store_check.specs.Checked.{check_passed}
 use Rattle.store_readings.proofs.label_readings.attribute_vec.Goals as goal
-
-pub returns-then-well : goal.returns-then-well
-returns-then-well c =
-    let a = c.args in
-    let m = (held a.store.now a.last_known_shingle.now a.reference_count.now a.location.now a.index_starts.now a.index_ends.now a.labels.now a.label_attributes.now a.label_count.now a.label_starts.now a.label_ends.now a.attributes.now a.attribute_count.now a.attribute_starts.now a.attribute_ends.now) in
-    ap (λ (told : Answer). output told c.attribute_vec-read.new.out) c.vector_read.ensures
-    ∙ vec_checked (point_store a.s m) a.label.0 a.out.now (checked_is a.s m c.check-checked.result.ok true c.check-checked.ensures.0 c.if-well.true) (vector_read_means c.attribute_vec-read.result) c.attribute_vec-read.new.out c.attribute_vec-read.ensures
 
 pub returns : goal.returns
 returns c =
     let a = c.args in
-    let m = (held a.store.now a.last_known_shingle.now a.reference_count.now a.location.now a.index_starts.now a.index_ends.now a.labels.now a.label_attributes.now a.label_count.now a.label_starts.now a.label_ends.now a.attributes.now a.attribute_count.now a.attribute_starts.now a.attribute_ends.now) in
-    sym (attribute_vec_ill (point_store a.s m) (checked_is a.s m c.check-checked.result.ok false c.check-checked.ensures.0 c.if-well.false) a.label.0 a.out.now)
+    let m = lent a.store.now a.last_known_shingle.now a.tables in
+    let well = (check_passed a.s m c.check.result Refusal.IllFormed c.check.ensures _ (sym c.ok_or.ensures.value ∙ c.in_ok-ok_or.was)).0 in
+    ap (λ (told : Answer). output told c.attribute_vec.new.out) (vector_told c.attribute_vec.result)
+    ∙ vec_checked (point_store a.s m) a.label.0 a.out.now well (vector_read_means c.attribute_vec.result) c.attribute_vec.new.out c.attribute_vec.ensures

@@ -1,29 +1,23 @@
--- The check decides between the two laws of `Previews`.
-use mathlib.Core.Bool.{true, false}
-use mathlib.Core.Path.{sym, ◌∙◌}
-use Rattle.store_definitions.specs.Lent.{held}
-use Rattle.store_definitions.specs.Memory.{point_store}
+-- What the check shows is what the preview relies on.
+use Rattle.std.proofs.Common.{sym, ◌∙◌}
+use Rattle.terms.specs.declared.Refusal.{Refusal}
 use Rattle.row_readings.specs.Shingled.{shingled}
 use Rattle.row_readings.specs.Previews.{preview_checked}
-use Rattle.store_laws.specs.IllFormedLaws.{preview_ill}
-use Rattle.store_rows.specs.Checked.{checked_is}
+use Rattle.store_definitions.specs.Lent.{lent}
+use Rattle.store_definitions.specs.Memory.{point_store}
+use Rattle.store_check.specs.Checked.{check_passed}
 use Rattle.store_readings.proofs.preview_calls.shingled_point.Goals as goal
 
 pub shingled_point_unchecked-requires : goal.shingled_point_unchecked-requires
 shingled_point_unchecked-requires c =
     let a = c.args in
-    let m = held a.store.now a.last_known_shingle.now a.reference_count.now a.location.now a.index_starts.now a.index_ends.now a.labels.now a.label_attributes.now a.label_count.now a.label_starts.now a.label_ends.now a.attributes.now a.attribute_count.now a.attribute_starts.now a.attribute_ends.now in
-    shingled (point_store a.s m) (checked_is a.s m c.check-checked.result.ok true c.check-checked.ensures.0 c.if-well.true)
-
-pub returns-then-well : goal.returns-then-well
-returns-then-well c =
-    let a = c.args in
-    let m = held a.store.now a.last_known_shingle.now a.reference_count.now a.location.now a.index_starts.now a.index_ends.now a.labels.now a.label_attributes.now a.label_count.now a.label_starts.now a.label_ends.now a.attributes.now a.attribute_count.now a.attribute_starts.now a.attribute_ends.now in
-    c.shingled_point_unchecked.ensures
-    ∙ preview_checked (point_store a.s m) a.point.now a.out.now (checked_is a.s m c.check-checked.result.ok true c.check-checked.ensures.0 c.if-well.true)
+    let m = lent a.store.now a.last_known_shingle.now a.tables in
+    let well = (check_passed a.s m c.check.result Refusal.IllFormed c.check.ensures _ (sym c.ok_or.ensures.value ∙ c.in_ok-ok_or.was)).0 in
+    shingled (point_store a.s m) well
 
 pub returns : goal.returns
 returns c =
     let a = c.args in
-    let m = held a.store.now a.last_known_shingle.now a.reference_count.now a.location.now a.index_starts.now a.index_ends.now a.labels.now a.label_attributes.now a.label_count.now a.label_starts.now a.label_ends.now a.attributes.now a.attribute_count.now a.attribute_starts.now a.attribute_ends.now in
-    sym (preview_ill (point_store a.s m) (checked_is a.s m c.check-checked.result.ok false c.check-checked.ensures.0 c.if-well.false) a.point.now a.out.now)
+    let m = lent a.store.now a.last_known_shingle.now a.tables in
+    let well = (check_passed a.s m c.check.result Refusal.IllFormed c.check.ensures _ (sym c.ok_or.ensures.value ∙ c.in_ok-ok_or.was)).0 in
+    c.shingled_point_unchecked.ensures ∙ preview_checked (point_store a.s m) a.point.now a.out.now well

@@ -1,13 +1,16 @@
--- Each table is filled by one call.
+-- Each table's first entries are filled.
+use Rattle.std.proofs.Common.{◌≡◌, ◌*◌, ◌++◌, drop, rules}
+use Rattle.store_definitions.specs.Opening.{filled_first}
 use Rattle.store_rows.specs.Openings.{points, points_opened_lem}
 use Rattle.store_rows.proofs.clearing.open_points.Goals as goal
 
 pub returns : goal.returns
 returns c =
     let a = c.args in
-    let g1 = c.fill in
-    let g2 = c.fill-2 in
-    let g3 = c.fill_table in
-    let g4 = c.fill_table-2 in
-    let g5 = c.open_stack in
-    points_opened_lem a.shape (points a.store.now a.last_known_shingle.now a.reference_count.now a.location.now a.index_starts.now a.index_ends.now) g1.new.words g2.new.words g3.new.table g4.new.table g5.new.starts g5.new.ends g1.ensures g2.ensures g3.ensures g4.ensures g5.ensures
+    let start = a.shape.initial_capacity in
+    let stack = c.open_stack in
+    let words : c.fill.new.self ++ drop (start * a.shape.dimensions) a.store.now ≡ filled_first (start * a.shape.dimensions) 0 a.store.now = search rules in
+    let window : c.fill-2.new.self ++ drop a.shape.dimensions a.last_known_shingle.now ≡ filled_first a.shape.dimensions 0 a.last_known_shingle.now = search rules in
+    let counts : c.fill-3.new.self ++ drop start a.reference_count.now ≡ filled_first start 0 a.reference_count.now = search rules in
+    let places : c.fill-4.new.self ++ drop start a.location.now ≡ filled_first start 65535 a.location.now = search rules in
+    points_opened_lem a.shape (points a.store.now a.last_known_shingle.now a.reference_count.now a.location.now a.index_starts.now a.index_ends.now) _ _ _ _ stack.new.starts stack.new.ends words window counts places stack.ensures

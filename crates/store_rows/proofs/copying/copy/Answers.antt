@@ -1,28 +1,21 @@
--- The check decides between the two laws of `Copying`.
-use mathlib.Core.Bool.{true, false}
-use mathlib.Core.Path.{sym, ◌∙◌}
-use Rattle.store_definitions.specs.Lent.{held}
+-- A store that passes the check copies as `Copying` says.
+use Rattle.std.proofs.Common.{sym, ◌∙◌}
+use Rattle.terms.specs.declared.Refusal.{Refusal}
+use Rattle.store_definitions.specs.Lent.{lent}
 use Rattle.store_definitions.specs.Memory.{point_store}
-use Rattle.store_rows.specs.Checked.{checked_is}
-use Rattle.store_laws.specs.IllFormedLaws.{copy_ill}
+use Rattle.store_check.specs.Checked.{check_passed}
 use Rattle.store_rows.specs.Copying.{readable, copy_checked}
 use Rattle.store_rows.proofs.copying.copy.Goals as goal
 
 pub copy_unchecked-requires : goal.copy_unchecked-requires
 copy_unchecked-requires c =
     let a = c.args in
-    let m = (held a.store.now a.last_known_shingle.now a.reference_count.now a.location.now a.index_starts.now a.index_ends.now a.labels.now a.label_attributes.now a.label_count.now a.label_starts.now a.label_ends.now a.attributes.now a.attribute_count.now a.attribute_starts.now a.attribute_ends.now) in
-    readable (point_store a.s m) (checked_is a.s m c.check-checked.result.ok true c.check-checked.ensures.0 c.if-well.true)
-
-pub returns-then-well : goal.returns-then-well
-returns-then-well c =
-    let a = c.args in
-    let m = (held a.store.now a.last_known_shingle.now a.reference_count.now a.location.now a.index_starts.now a.index_ends.now a.labels.now a.label_attributes.now a.label_count.now a.label_starts.now a.label_ends.now a.attributes.now a.attribute_count.now a.attribute_starts.now a.attribute_ends.now) in
-    c.copy_unchecked.ensures
-    ∙ copy_checked (point_store a.s m) a.index.0 a.out.now (checked_is a.s m c.check-checked.result.ok true c.check-checked.ensures.0 c.if-well.true)
+    let m = lent a.store.now a.last_known_shingle.now a.tables in
+    readable (point_store a.s m) (check_passed a.s m c.check.result Refusal.IllFormed c.check.ensures _ (sym c.ok_or.ensures.value ∙ c.in_ok-ok_or.was)).0
 
 pub returns : goal.returns
 returns c =
     let a = c.args in
-    let m = (held a.store.now a.last_known_shingle.now a.reference_count.now a.location.now a.index_starts.now a.index_ends.now a.labels.now a.label_attributes.now a.label_count.now a.label_starts.now a.label_ends.now a.attributes.now a.attribute_count.now a.attribute_starts.now a.attribute_ends.now) in
-    sym (copy_ill (point_store a.s m) (checked_is a.s m c.check-checked.result.ok false c.check-checked.ensures.0 c.if-well.false) a.index.0 a.out.now)
+    let m = lent a.store.now a.last_known_shingle.now a.tables in
+    c.copy_unchecked.ensures
+    ∙ copy_checked (point_store a.s m) a.index.0 a.out.now (check_passed a.s m c.check.result Refusal.IllFormed c.check.ensures _ (sym c.ok_or.ensures.value ∙ c.in_ok-ok_or.was)).0

@@ -1,6 +1,6 @@
 -- One conjunction, as it is defined.
 use native.Mathlib.Omega.{arith}
-use Rattle.store_definitions.specs.Lent.{held}
+use Rattle.store_definitions.specs.Lent.{lent}
 use Rattle.store_laws.specs.BoundsLaws.{in_bounds}
 use Rattle.store_rows.specs.Openings.{lent_is}
 use Rattle.store_rows.proofs.opening.enough_lent.Goals as goal
@@ -13,5 +13,4 @@ overflow_mul-result c =
 pub returns : goal.returns
 returns c =
     let a = c.args in
-    let m = (held a.store.now a.last_known_shingle.now a.reference_count.now a.location.now a.index_starts.now a.index_ends.now a.labels.now a.label_attributes.now a.label_count.now a.label_starts.now a.label_ends.now a.attributes.now a.attribute_count.now a.attribute_starts.now a.attribute_ends.now) in
-    lent_is a.shape m c.labels_lent-of_labels.result c.labels_lent-of_labels.ensures
+    lent_is a.shape (lent a.store.now a.last_known_shingle.now a.tables) c.labels_lent-of_labels.result c.labels_lent-of_labels.ensures

@@ -1,35 +1,17 @@
 -- Each way out is one of the laws of `Openings`.
-use mathlib.Core.Path.{sym, ◌∙◌}
-use Rattle.store_definitions.specs.Lent.{held}
-use Rattle.store_rows.specs.Openings.{start_none, start_above, lent_short, all_lent, no_table}
+use Rattle.std.proofs.Common.{true, refl, sym, ◌∙◌}
+use Rattle.store_definitions.specs.Lent.{lent}
+use Rattle.store_rows.specs.Openings.{shape_refused, bounds_allowed, lent_short, all_lent}
 use Rattle.store_rows.proofs.opening.opening_decision.Goals as goal
 
-pub returns-then-shape-lt1 : goal.returns-then-shape-lt1
-returns-then-shape-lt1 c =
-    let a = c.args in
-    let m = (held a.store.now a.last_known_shingle.now a.reference_count.now a.location.now a.index_starts.now a.index_ends.now a.labels.now a.label_attributes.now a.label_count.now a.label_starts.now a.label_ends.now a.attributes.now a.attribute_count.now a.attribute_starts.now a.attribute_ends.now) in
-    start_none a.shape m a.table (sym c.bounds_hold.ensures ∙ c.if-bounds_hold.true) c.if-shape-lt1.true
+pub returns-then-not-shape_allowed : goal.returns-then-not-shape_allowed
+returns-then-not-shape_allowed c = shape_refused c.args.shape (lent c.args.store.now c.args.last_known_shingle.now c.args.tables) true (sym c.shape_allowed.ensures ∙ c.if-not-shape_allowed.true)
 
-pub returns-then-shape : goal.returns-then-shape
-returns-then-shape c =
-    let a = c.args in
-    let m = (held a.store.now a.last_known_shingle.now a.reference_count.now a.location.now a.index_starts.now a.index_ends.now a.labels.now a.label_attributes.now a.label_count.now a.label_starts.now a.label_ends.now a.attributes.now a.attribute_count.now a.attribute_starts.now a.attribute_ends.now) in
-    start_above a.shape m a.table (sym c.bounds_hold.ensures ∙ c.if-bounds_hold.true) c.if-shape-lt1.false c.if-shape.true
+pub enough_lent-requires : goal.enough_lent-requires
+enough_lent-requires c = bounds_allowed c.args.shape (lent c.args.store.now c.args.last_known_shingle.now c.args.tables) true (sym c.shape_allowed.ensures ∙ c.if-not-shape_allowed.false)
 
-pub returns-then-table : goal.returns-then-table
-returns-then-table c =
-    let a = c.args in
-    let m = (held a.store.now a.last_known_shingle.now a.reference_count.now a.location.now a.index_starts.now a.index_ends.now a.labels.now a.label_attributes.now a.label_count.now a.label_starts.now a.label_ends.now a.attributes.now a.attribute_count.now a.attribute_starts.now a.attribute_ends.now) in
-    all_lent a.shape m a.table (sym c.bounds_hold.ensures ∙ c.if-bounds_hold.true) c.if-shape-lt1.false c.if-shape.false (sym c.enough_lent.ensures ∙ c.if-enough_lent.true) c.if-table.true
+pub returns-then-not-enough_lent : goal.returns-then-not-enough_lent
+returns-then-not-enough_lent c = lent_short c.args.shape (lent c.args.store.now c.args.last_known_shingle.now c.args.tables) true (sym c.shape_allowed.ensures ∙ c.if-not-shape_allowed.false) (sym c.enough_lent.ensures ∙ c.if-not-enough_lent.true)
 
-pub returns-then-enough_lent : goal.returns-then-enough_lent
-returns-then-enough_lent c =
-    let a = c.args in
-    let m = (held a.store.now a.last_known_shingle.now a.reference_count.now a.location.now a.index_starts.now a.index_ends.now a.labels.now a.label_attributes.now a.label_count.now a.label_starts.now a.label_ends.now a.attributes.now a.attribute_count.now a.attribute_starts.now a.attribute_ends.now) in
-    no_table a.shape m a.table (sym c.bounds_hold.ensures ∙ c.if-bounds_hold.true) c.if-shape-lt1.false c.if-shape.false (sym c.enough_lent.ensures ∙ c.if-enough_lent.true) c.if-table.false
-
-pub returns-then-bounds_hold : goal.returns-then-bounds_hold
-returns-then-bounds_hold c =
-    let a = c.args in
-    let m = (held a.store.now a.last_known_shingle.now a.reference_count.now a.location.now a.index_starts.now a.index_ends.now a.labels.now a.label_attributes.now a.label_count.now a.label_starts.now a.label_ends.now a.attributes.now a.attribute_count.now a.attribute_starts.now a.attribute_ends.now) in
-    lent_short a.shape m a.table (sym c.bounds_hold.ensures ∙ c.if-bounds_hold.true) c.if-shape-lt1.false c.if-shape.false (sym c.enough_lent.ensures ∙ c.if-enough_lent.false)
+pub returns : goal.returns
+returns c = all_lent c.args.shape (lent c.args.store.now c.args.last_known_shingle.now c.args.tables) true (sym c.shape_allowed.ensures ∙ c.if-not-shape_allowed.false) (sym c.enough_lent.ensures ∙ c.if-not-enough_lent.false) refl

@@ -1,6 +1,0 @@
--- The marks are a local array with no mark.
-use Rattle.store_check.proofs.PlaceLaws.{none_marked}
-use Rattle.store_check.proofs.points.distinct_1024.Goals as goal
-
-pub mark_places-requires : goal.mark_places-requires
-mark_places-requires c = (c.requires.0, (none_marked 1024, c.requires.1))

@@ -1,0 +1,54 @@
+// The lent tables of a store as a call that reads them gets them: all that is lent but the floats and the window.
+ghost use Rattle.std.specs.Prelude.{ℕ, List, ◌≡◌};
+ghost use Rattle.store_definitions.specs.Lent.{held, lent};
+
+use labels::LabelTables;
+
+#[derive(Clone, Copy)]
+pub struct Tables<'a> {
+    pub reference_count: &'a [u16],
+    pub location: &'a [u16],
+    pub index_starts: &'a [u16],
+    pub index_ends: &'a [u16],
+    pub label_tables: LabelTables<'a>,
+}
+
+impl<'a> Tables<'a> {
+    // For a call that writes some of the slices: here all of them are lent for as long as the check reads them.
+    pub fn new(
+        reference_count: &'a [u16],
+        location: &'a [u16],
+        index_starts: &'a [u16],
+        index_ends: &'a [u16],
+        labels: &'a [u8],
+        label_attributes: &'a [u16],
+        label_count: &'a [u16],
+        label_starts: &'a [u16],
+        label_ends: &'a [u16],
+        attributes: &'a [u8],
+        attribute_count: &'a [u32],
+        attribute_starts: &'a [u16],
+        attribute_ends: &'a [u16],
+    ) -> Tables<'a>
+        ensures { (store window : List ℕ) → lent store window result ≡ held store window reference_count.now location.now index_starts.now index_ends.now labels.now label_attributes.now label_count.now label_starts.now label_ends.now attributes.now attribute_count.now attribute_starts.now attribute_ends.now }
+    {
+        let label_tables = LabelTables {
+            labels,
+            label_attributes,
+            label_count,
+            label_starts,
+            label_ends,
+            attributes,
+            attribute_count,
+            attribute_starts,
+            attribute_ends,
+        };
+        Tables {
+            reference_count,
+            location,
+            index_starts,
+            index_ends,
+            label_tables,
+        }
+    }
+}
