@@ -1,5 +1,6 @@
 // Opening the label half: the first entries of each table made 0, and the managers as new makes them.
-// Kept: an opening writes to slices that stand nowhere together but in its own parameters, so a struct of them would be made for one call.
+// Kept: the slices are parameters, as the exported opening has them: a struct of `&mut` slices comes back from a call under names of the
+// checker's own.
 #![tactic(auto)]
 
 ghost use Rattle.std.specs.Prelude.{◌≡◌};

@@ -9,11 +9,11 @@ use Rattle.store_definitions.specs.Memory.{Memory, PointStore, point_store}
 use Rattle.store_definitions.specs.Answers.{Answer, done, opened_means, Outcome, outcome}
 use Rattle.store_definitions.specs.Lent.{left}
 use Rattle.store_definitions.specs.Opening.{opened_store, open_spec}
-use Rattle.store_adjust.specs.Pairs.{pairings_of}
+use Rattle.store_adjust.specs.Pairs.{pairings, pairings_of}
 use Rattle.guarantee.specs.Run.{Call, add, inc, dec, adjust, compact, called, after, answer_to}
 use Rattle.guarantee.specs.Guarantee.{Guarantee}
 use Rattle.guarantee.proofs.Theorem.{guaranteed}
-use Rattle.program_runs.specs.Ran.{Opened, opens, Ran, none_yet, adds, incs, decs, adjusts, compacts}
+use Rattle.program_runs.specs.Ran.{Opened, opens, Ran, none_yet, adds, incs, decs, adjusts, adjusts_plain, compacts}
 
 pub opened_is : {h : Shape} {text : List ℕ} {m : Memory ℕ} {start : PointStore ℕ} → Opened h text m start → open_spec 0 h text m ≡ outcome done start
 opened_is (opens h a b c d e f g h' i j k l m n o text answer s ensures accepted) =
@@ -46,6 +46,7 @@ ran (adds s after a b c d e f g h i j k l m n o point label answer before ensure
 ran (incs s a b c d e f g h i j k l m n o index label answer before ensures) = call (inc index.0 label.0) ensures (ran before)
 ran (decs s after a b c d e f g h i j k l m n o index label answer before ensures) = call (dec index.0 label.0) ensures (ran before)
 ran (adjusts s after a b c d e f g h i j k l m n o pairs answer before ensures) = call (adjust (pairings_of pairs.entry)) ensures (ran before)
+ran (adjusts_plain s after a b c d e f g h i j k l m n o pairs answer before ensures) = call (adjust (pairings pairs.entry)) ensures (ran before)
 ran (compacts s after a b c d e f g h i j k l m n o answer before ensures) = call compact ensures (ran before)
 
 -- and so the list guarantee is one of the program: its store and its answers are those of the run that the guarantee speaks of

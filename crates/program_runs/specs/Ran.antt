@@ -19,7 +19,7 @@ use Rattle.store_definitions.specs.Opening.{opened_store, open_spec}
 use Rattle.store_definitions.specs.Adding.{add_spec}
 use Rattle.store_definitions.specs.Counting.{inc_spec, dec_spec, adjust_spec}
 use Rattle.store_definitions.specs.Rows.{compact_spec}
-use Rattle.store_adjust.specs.Pairs.{pairings_of}
+use Rattle.store_adjust.specs.Pairs.{pairings, pairings_of}
 use Rattle.guarantee.specs.Run.{Call, add, inc, dec, adjust, compact}
 
 abbrev pub SliceOf : Type 0 → Type 0
@@ -56,6 +56,11 @@ pub data Ran (start : PointStore ℕ) : List (Call ℕ) → List Answer → Poin
       → Ran start calls answers (point_store s (entered store last_known_shingle reference_count location index_starts index_ends labels label_attributes label_count label_starts label_ends attributes attribute_count attribute_starts attribute_ends))
       → outcome (adjusted_means answer) (point_store after (left store last_known_shingle reference_count location index_starts index_ends labels label_attributes label_count label_starts label_ends attributes attribute_count attribute_starts attribute_ends)) ≡ adjust_spec (point_store s (entered store last_known_shingle reference_count location index_starts index_ends labels label_attributes label_count label_starts label_ends attributes attribute_count attribute_starts attribute_ends)) (pairings_of pairs.entry)
       → Ran start (adjust (pairings_of pairs.entry) ∷ calls) (adjusted_means answer ∷ answers) (point_store after (left store last_known_shingle reference_count location index_starts index_ends labels label_attributes label_count label_starts label_ends attributes attribute_count attribute_starts attribute_ends))
+  -- the same of rows of four numbers in place of the pairs
+  adjusts_plain : {calls : List (Call ℕ)} {answers : List Answer} (s after : Store) (store last_known_shingle reference_count location index_starts index_ends labels label_attributes label_count label_starts label_ends attributes attribute_count attribute_starts attribute_ends : Slice) (pairs : SliceOf (List ℕ)) (answer : Result Unit AdjustRefusal)
+      → Ran start calls answers (point_store s (entered store last_known_shingle reference_count location index_starts index_ends labels label_attributes label_count label_starts label_ends attributes attribute_count attribute_starts attribute_ends))
+      → outcome (adjusted_means answer) (point_store after (left store last_known_shingle reference_count location index_starts index_ends labels label_attributes label_count label_starts label_ends attributes attribute_count attribute_starts attribute_ends)) ≡ adjust_spec (point_store s (entered store last_known_shingle reference_count location index_starts index_ends labels label_attributes label_count label_starts label_ends attributes attribute_count attribute_starts attribute_ends)) (pairings pairs.entry)
+      → Ran start (adjust (pairings pairs.entry) ∷ calls) (adjusted_means answer ∷ answers) (point_store after (left store last_known_shingle reference_count location index_starts index_ends labels label_attributes label_count label_starts label_ends attributes attribute_count attribute_starts attribute_ends))
   -- store_rows::compact
   compacts : {calls : List (Call ℕ)} {answers : List Answer} (s after : Store) (store last_known_shingle reference_count location index_starts index_ends labels label_attributes label_count label_starts label_ends attributes attribute_count attribute_starts attribute_ends : Slice) (answer : Result Unit Refusal)
       → Ran start calls answers (point_store s (entered store last_known_shingle reference_count location index_starts index_ends labels label_attributes label_count label_starts label_ends attributes attribute_count attribute_starts attribute_ends))
