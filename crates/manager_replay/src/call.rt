@@ -1,4 +1,5 @@
 // The calls of the record, by their numbers there.
+use recorded_text::UnknownCall;
 use std::fmt;
 
 #[derive(Clone, Copy)]
@@ -11,10 +12,6 @@ pub enum Call {
     IsEmpty,
     GetCapacity,
 }
-
-// A number that is no call's.
-#[derive(Clone, Copy)]
-pub struct UnknownCall(usize);
 
 // Every call, at its number's place.
 pub const CALLS: [Call; 7] = [
@@ -46,11 +43,5 @@ impl fmt::Display for Call {
             Call::IsEmpty => "is_empty",
             Call::GetCapacity => "get_capacity",
         })
-    }
-}
-
-impl fmt::Display for UnknownCall {
-    fn fmt<W: fmt::Write>(&self, f: &mut fmt::Formatter<W>) -> fmt::Result {
-        write!(f, "no call has the number {}", self.0)
     }
 }

@@ -5,8 +5,10 @@
 ghost use Rattle.std.specs.Prelude.{◌≡◌};
 ghost use Rattle.recorded_text.specs.Numbers.{number_at, numeral};
 
+mod call;
 mod tally;
 
+pub use call::UnknownCall;
 pub use tally::{Agreement, Tally};
 
 // A number and where the next one starts.

@@ -1,4 +1,5 @@
 // The calls of the record, by their numbers there.
+use recorded_text::UnknownCall;
 use std::fmt;
 
 #[derive(Clone, Copy)]
@@ -20,10 +21,6 @@ pub enum Call {
     Attribute,
     AttributeVec,
 }
-
-// A number that is no call's.
-#[derive(Clone, Copy)]
-pub struct UnknownCall(usize);
 
 // Every call, at its number's place.
 pub const CALLS: [Call; 16] = [
@@ -73,11 +70,5 @@ impl fmt::Display for Call {
             Call::Attribute => "attribute",
             Call::AttributeVec => "attribute_vec",
         })
-    }
-}
-
-impl fmt::Display for UnknownCall {
-    fn fmt<W: fmt::Write>(&self, f: &mut fmt::Formatter<W>) -> fmt::Result {
-        write!(f, "no call has the number {}", self.0)
     }
 }

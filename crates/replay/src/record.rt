@@ -7,6 +7,7 @@ use store_definitions::{Change, Item, Pair};
 use terms::{FloatBits, LabelIndex, NONE, PointIndex};
 
 // What the record writes for none, 2^64 − 1.
+// Kept: a number of the record has at most ten digits, and the calls take NONE.
 const NONE_WRITTEN: usize = 9_999_999_999;
 
 pub fn written(index: usize) -> usize {
