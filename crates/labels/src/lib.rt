@@ -16,7 +16,7 @@ pub use count::{dec_label, inc_label};
 pub use decide::{code_decision, dec_decision, inc_decision, label_in_use, room_decision};
 use interval_store_manager::IntervalStoreManager;
 pub use read::{attribute, attribute_vec, label};
-pub use tables::{LabelLowering, LabelRaising, LabelTables, LabelTaking};
+pub use tables::{LabelLowering, LabelRaising, LabelTables, LabelTaking, LabelWriting};
 pub use take::take_label;
 
 // The managers of the label indices and of the attribute slots.

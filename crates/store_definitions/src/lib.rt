@@ -6,7 +6,7 @@ mod tables;
 
 use interval_store_manager::IntervalStoreManager;
 use placement::Laid;
-pub use tables::Tables;
+pub use tables::{PointRaising, PointTables, Tables};
 use terms::{LabelIndex, PointIndex, Refusal};
 
 // The record of a store, under the Rust's names. What the Rust keeps in vectors is lent beside it.

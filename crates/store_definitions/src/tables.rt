@@ -1,9 +1,11 @@
-// The lent tables of a store as a call that reads them gets them: all that is lent but the floats and the window.
+// The lent tables of a store: all that is lent but the floats and the window, which only what moves elements takes.
 ghost use Rattle.std.specs.Prelude.{ℕ, List, ◌≡◌};
-ghost use Rattle.store_definitions.specs.Lent.{held, lent};
+ghost use Rattle.labels.specs.Lent.{lists_lent};
+ghost use Rattle.store_definitions.specs.Lent.{held, lent, memory, points_lent, points_raising};
 
 use labels::LabelTables;
 
+// As a call that reads gets them.
 #[derive(Clone, Copy)]
 pub struct Tables<'a> {
     pub reference_count: &'a [u16],
@@ -14,7 +16,7 @@ pub struct Tables<'a> {
 }
 
 impl<'a> Tables<'a> {
-    // For a call that writes some of the slices: here all of them are lent for as long as the check reads them.
+    // From the slices as C lends them, and for a call that writes only some: here all are lent for as long as the check reads them.
     pub fn new(
         reference_count: &'a [u16],
         location: &'a [u16],
@@ -48,6 +50,53 @@ impl<'a> Tables<'a> {
             location,
             index_starts,
             index_ends,
+            label_tables,
+        }
+    }
+}
+
+// The points' half, as a call that writes there gets it. The label half stands beside it, by what the call writes of it.
+// Kept: two forms, since the C interface lends inc as `&mut` only the counts.
+#[derive(Drop)]
+pub struct PointTables<'a> {
+    pub reference_count: &'a mut [u16],
+    pub location: &'a mut [u16],
+    pub index_starts: &'a mut [u16],
+    pub index_ends: &'a mut [u16],
+}
+
+impl<'a> PointTables<'a> {
+    pub fn read<'b>(&'b self, label_tables: LabelTables<'b>) -> Tables<'b>
+        ensures { (store window : List ℕ) → lent store window result ≡ memory store window (points_lent self.now) (lists_lent label_tables.entry) }
+    {
+        Tables {
+            reference_count: self.reference_count,
+            location: self.location,
+            index_starts: self.index_starts,
+            index_ends: self.index_ends,
+            label_tables,
+        }
+    }
+}
+
+// For one count more.
+#[derive(Drop)]
+pub struct PointRaising<'a> {
+    pub reference_count: &'a mut [u16],
+    pub location: &'a [u16],
+    pub index_starts: &'a [u16],
+    pub index_ends: &'a [u16],
+}
+
+impl<'a> PointRaising<'a> {
+    pub fn read<'b>(&'b self, label_tables: LabelTables<'b>) -> Tables<'b>
+        ensures { (store window : List ℕ) → lent store window result ≡ memory store window (points_raising self.now) (lists_lent label_tables.entry) }
+    {
+        Tables {
+            reference_count: self.reference_count,
+            location: self.location,
+            index_starts: self.index_starts,
+            index_ends: self.index_ends,
             label_tables,
         }
     }

@@ -1,0 +1,25 @@
+-- The ways out of the call.
+use Rattle.std.proofs.Common.{rules}
+use Rattle.store_definitions.specs.Memory.{point_store}
+use Rattle.store_check.specs.Tables.{tables_raising}
+use Rattle.store_counts.specs.CallLaws.{inc_allowed, inc_went, inc_refused}
+use Rattle.store_counts.proofs.raise.inc_unchecked.Goals as goal
+
+pub returns-in_err-may_inc-clause-inc : goal.returns-in_err-may_inc-clause-inc
+returns-in_err-may_inc-clause-inc c =
+    let a = c.args in
+    let p = point_store a.s (tables_raising a.floats a.window a.points.now a.labels.now) in
+    let refused = inc_refused p a.index.0 a.label.0 c.requires _ c.may_inc.ensures _ c.in_err-may_inc.was in
+    search (rules, refused)
+
+pub inc_accepted-requires : goal.inc_accepted-requires
+inc_accepted-requires c =
+    let a = c.args in
+    let p = point_store a.s (tables_raising a.floats a.window a.points.now a.labels.now) in
+    inc_allowed p a.index.0 a.label.0 c.requires _ c.may_inc.ensures c.in_ok-may_inc.was
+
+pub returns-clause-inc : goal.returns-clause-inc
+returns-clause-inc c =
+    let a = c.args in
+    let p = point_store a.s (tables_raising a.floats a.window a.points.now a.labels.now) in
+    inc_went p a.index.0 a.label.0 c.requires _ c.may_inc.ensures c.in_ok-may_inc.was _ c.inc_accepted.ensures.raised
