@@ -1,43 +1,40 @@
 // One count more of a point and, with labels on, of its label and the label's slot.
-ghost use Rattle.std.specs.Prelude.{true, ◌≡◌};
-ghost use Rattle.interval_store_manager.specs.Calls.{decision_means, go};
+ghost use Rattle.std.specs.Prelude.{true, cond, ◌≡◌, get_or};
+ghost use Rattle.interval_store_manager.specs.Calls.{decision_means};
 ghost use Rattle.store_definitions.specs.Answers.{outcome, done_means};
-ghost use Rattle.store_definitions.specs.Counting.{inc_test, incremented, inc_spec};
+ghost use Rattle.store_definitions.specs.Counting.{inc_test, inc_spec};
+ghost use Rattle.labels.specs.Forms.{one_more};
 ghost use Rattle.labels.specs.Lent.{SameRaising};
 ghost use Rattle.store_definitions.specs.Lent.{SameRaised, lent_raising};
 ghost use Rattle.store_definitions.specs.Memory.{point_store};
 ghost use Rattle.store_definitions.specs.WellFormed.{well_formed};
 ghost use Rattle.store_check.specs.Tables.{tables_raising};
-ghost use Rattle.store_counts.specs.Tables.{counts_alone};
+ghost use Rattle.store_counts.specs.Tables.{Raisable, counts_alone};
 
 use crate::decide::inc_test;
-use labels::{LabelManagers, LabelRaising, inc_label};
+use labels::{LabelRaising, inc_label};
 use store_check::check;
 use store_definitions::{PointRaising, Store};
 use terms::{FloatBits, LabelIndex, PointIndex, Refusal};
 
-// One count more, for callers that have checked the store and the call. Of the elements only the lengths are known.
+// One count more, for callers that have checked the store and the call: of all that is lent, what it reads and writes.
 pub fn inc_accepted(
-    s: Store,
-    floats: usize,
-    window: usize,
-    points: &mut PointRaising,
-    labels: &mut LabelRaising,
+    store_labels: bool,
+    reference_count: &mut [u16],
+    label_attributes: &[u16],
+    label_count: &mut [u16],
+    attribute_count: &mut [u32],
     index: PointIndex,
     label: LabelIndex,
 )
-    requires { (well_formed (point_store s (tables_raising floats window points.old labels.old)) ≡ true) × (inc_test (point_store s (tables_raising floats window points.old labels.old)) index.0 label.0 ≡ go) }
-    ensures same { SameRaised points.old points.new × SameRaising labels.old labels.new }
-    ensures raised { point_store s (tables_raising floats window points.new labels.new) ≡ incremented (point_store s (tables_raising floats window points.old labels.old)) index.0 label.0 }
+    requires { Raisable store_labels reference_count.old label_attributes.now label_count.old attribute_count.old index.0 label.0 }
+    ensures points { reference_count.new ≡ one_more reference_count.old index.0 }
+    ensures labels { label_count.new ≡ cond store_labels (one_more label_count.old label.0) label_count.old }
+    ensures slots { attribute_count.new ≡ cond store_labels (one_more attribute_count.old (get_or label_attributes.now label.0 0)) attribute_count.old }
 {
-    let i = index.0;
-    points.reference_count[i] += 1;
-    if s.store_labels {
-        let managers = LabelManagers {
-            label_manager: s.label_manager,
-            attribute_manager: s.attribute_manager,
-        };
-        inc_label(&s.classes, s.capacity, managers, labels, label);
+    reference_count[index.0] += 1;
+    if store_labels {
+        inc_label(label_attributes, label_count, attribute_count, label);
     }
 }
 
@@ -69,7 +66,15 @@ pub fn inc_unchecked(
     ensures inc { outcome (done_means result) (point_store s (tables_raising floats window points.new labels.new)) ≡ inc_spec (point_store s (tables_raising floats window points.old labels.old)) index.0 label.0 }
 {
     may_inc(s, points, labels, index, label)?;
-    inc_accepted(s, floats, window, points, labels, index, label);
+    inc_accepted(
+        s.store_labels,
+        points.reference_count,
+        labels.label_attributes,
+        labels.label_count,
+        labels.attribute_count,
+        index,
+        label,
+    );
     Ok(())
 }
 
