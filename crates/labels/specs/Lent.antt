@@ -21,6 +21,20 @@ pub record LabelLists : Type 0 where
   pub attribute_starts : List ℕ
   pub attribute_ends : List ℕ
 
+abbrev pub label_lists : List ℕ → List ℕ → List ℕ → List ℕ → List ℕ → List ℕ → List ℕ → List ℕ → List ℕ → LabelLists
+label_lists labels slots label_counts label_starts label_ends classes slot_counts slot_starts slot_ends =
+    record {
+      labels = labels;
+      label_attributes = slots;
+      label_count = label_counts;
+      label_starts = label_starts;
+      label_ends = label_ends;
+      attributes = classes;
+      attribute_count = slot_counts;
+      attribute_starts = slot_starts;
+      attribute_ends = slot_ends;
+    }
+
 -- with the managers
 abbrev pub labels_of : LabelManagers → LabelLists → Labels
 labels_of m x =

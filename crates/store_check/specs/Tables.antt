@@ -6,8 +6,8 @@ use Rattle.labels.specs.declared.tables.LabelLowering.{LabelLowering}
 use Rattle.store_definitions.specs.declared.tables.PointRaising.{PointRaising}
 use Rattle.store_definitions.specs.declared.tables.PointTables.{PointTables}
 use Rattle.store_definitions.specs.declared.tables.Tables.{Tables}
-use Rattle.labels.specs.Lent.{lists_raising, lists_lowering}
-use Rattle.store_definitions.specs.Lent.{memory, points_lent, points_raising}
+use Rattle.labels.specs.Lent.{LabelLists, lists_raising, lists_lowering}
+use Rattle.store_definitions.specs.Lent.{PointLists, memory, points_lent, points_raising}
 use Rattle.store_definitions.specs.Memory.{Memory}
 
 abbrev pub Ref : Type 0
@@ -43,12 +43,16 @@ tables_lent floats window t =
     t.label_tables.label_attributes.now t.label_tables.label_count.now t.label_tables.label_starts.now t.label_tables.label_ends.now
     t.label_tables.attributes.now t.label_tables.attribute_count.now t.label_tables.attribute_starts.now t.label_tables.attribute_ends.now
 
+-- by the lists of the points and of the labels
+abbrev pub tables_of : (floats window : ℕ) → PointLists → LabelLists → Memory (Unit {0})
+tables_of floats window p l = memory (replicate floats tt) (replicate window tt) p l
+
 -- as a call that raises or lowers counts gets them
 abbrev pub tables_raising : (floats window : ℕ) → PointRaising → LabelRaising → Memory (Unit {0})
-tables_raising floats window p l = memory (replicate floats tt) (replicate window tt) (points_raising p) (lists_raising l)
+tables_raising floats window p l = tables_of floats window (points_raising p) (lists_raising l)
 
 abbrev pub tables_lowering : (floats window : ℕ) → PointTables → LabelLowering → Memory (Unit {0})
-tables_lowering floats window p l = memory (replicate floats tt) (replicate window tt) (points_lent p) (lists_lowering l)
+tables_lowering floats window p l = tables_of floats window (points_lent p) (lists_lowering l)
 
 -- as a call began
 abbrev pub tables_at_entry : (floats window : ℕ) → Slice → Slice → Slice → Slice → Slice → Slice → Slice → Slice → Slice → Slice → Slice → Slice → Slice → Memory (Unit {0})
