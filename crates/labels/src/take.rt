@@ -22,14 +22,10 @@ fn class_slot(
     requires { (capacity ≤ length attributes.now) × (capacity ≤ length attribute_count.now) }
     ensures { result ≡ live_slot capacity attributes.now attribute_count.now class }
 {
-    for i in 0..capacity {
-        if 0 < attribute_count[i] {
-            if attributes[i] == class {
-                return Some(i);
-            }
-        }
-    }
-    None
+    attributes[..capacity]
+        .iter()
+        .zip(&attribute_count[..capacity])
+        .position(|(held, count)| 0 < *count && *held == class)
 }
 
 // A slot for the class, with one count more.
