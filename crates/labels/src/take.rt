@@ -13,6 +13,7 @@ use interval_store_manager::IntervalStoreManager;
 use terms::LabelIndex;
 
 // The live slot that holds the class.
+// Kept: the capacity stands beside the tables, as the definition searches the first entries of two lent lists.
 fn class_slot(
     capacity: usize,
     attributes: &[u8],

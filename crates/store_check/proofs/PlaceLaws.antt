@@ -5,7 +5,7 @@ use native.Mathlib.Numerals.{add-one}
 use mathlib.Core.List.{List}
 use mathlib.Core.Bool.{Bool, true, false, ◌&&◌, ◌||◌, not, or-true, or-false, and-true}
 use mathlib.Core.Path.{◌≡◌, refl, sym, ◌∙◌, ap}
-use lib.ListN.{length, get_or, replicate, take}
+use lib.ListN.{length, get_or, take}
 use lib.Seq.{get_or-set_same, get_or-set_other, get_or-take}
 use native.Mathlib.Omega.{arith}
 use Rattle.std.proofs.lemmas.List.{length-take-le}
@@ -15,12 +15,6 @@ use Rattle.terms.specs.Below.{every_below}
 use Rattle.store_definitions.specs.WellFormed.{places_distinct}
 use Rattle.store_check.specs.Entries.{stands, place_met, place_marked, NoneMarked}
 use Rattle.label_check.specs.LabelPass.{every_same}
-
--- a list of `false` marks nothing
-pub none_marked : (n : ℕ) → NoneMarked (replicate n false)
-none_marked zero q = refl
-none_marked (suc n) zero = refl
-none_marked (suc n) (suc q) = none_marked n q
 
 apart : List ℕ → ℕ → ℕ → Bool
 apart location i j = not (eqb (get_or location i 65535) (get_or location j 65535)) || eqb (get_or location i 65535) 65535

@@ -84,6 +84,7 @@ fn distinct_in<const N: usize>(location: &[u16]) -> bool
 }
 
 // Whether the live places of the first n entries are distinct, with a table of marks no larger than the places ask for.
+// Kept: n stands beside the lent list, as the definition counts the list's first entries.
 #[tactic(auto, using(crate::proofs::PlaceLaws::part_distinct))]
 pub fn places_distinct(n: usize, places: usize, location: &[u16]) -> bool
     requires { (places ≤ 16384) × ((n ≤ length location.now) × PlacesBelow places n location.now) }
