@@ -11,6 +11,7 @@ pub fn classes_legal(words: &[u64], at: usize) -> bool
     ensures { result ≡ classes_legal at words.now }
 {
     let mut legal = true;
+    // Kept: vector code, in 3.6 ns; `all`, with its way out, takes 9.7, in each exported call that reads a record.
     for code in 0..24 {
         legal &= words[at + code] < 256;
     }

@@ -4,29 +4,12 @@
 #![tactic(auto)]
 
 ghost use Rattle.std.specs.Prelude.{◌≡◌};
-ghost use Rattle.interval_store_manager.specs.Answers.{opened, opening};
-ghost use Rattle.interval_store_manager.specs.Calls.{new_spec};
-ghost use Rattle.labels.specs.Opening.{labels_opened, Openable};
+ghost use Rattle.labels.specs.Opening.{labels_opened};
 ghost use Rattle.label_opening.specs.OpeningLaws.{LabelsOpenable};
 ghost use Rattle.labels.specs.Forms.{held};
 
 use interval_store_manager::IntervalStoreManager;
 use labels::LabelManagers;
-
-// A manager of a capacity that is allowed, over slices that are long enough: new does not refuse it.
-fn open_manager(capacity: usize, starts: &mut [u16], ends: &mut [u16]) -> IntervalStoreManager
-    requires { Openable capacity starts.old ends.old }
-    ensures { opening (opened result) starts.new ends.new ≡ new_spec capacity starts.old ends.old }
-{
-    let answer = IntervalStoreManager::new(capacity, starts, ends);
-    match answer {
-        Ok(m) => m,
-        Err(_) => IntervalStoreManager {
-            capacity,
-            last_in_use: 0,
-        },
-    }
-}
 
 // The label half of a fresh store.
 pub fn open_labels(
@@ -47,10 +30,10 @@ pub fn open_labels(
     labels[..capacity].fill(0);
     label_attributes[..capacity].fill(0);
     label_count[..capacity].fill(0);
-    let label_manager = open_manager(capacity, label_starts, label_ends);
+    let label_manager = IntervalStoreManager::new_unchecked(capacity, label_starts, label_ends);
     attributes[..capacity].fill(0);
     attribute_count[..capacity].fill(0);
-    let attribute_manager = open_manager(capacity, attribute_starts, attribute_ends);
+    let attribute_manager = IntervalStoreManager::new_unchecked(capacity, attribute_starts, attribute_ends);
     LabelManagers {
         label_manager,
         attribute_manager,

@@ -6,14 +6,17 @@
 mod classes;
 mod count;
 mod decide;
-mod entry;
+mod entries;
 mod read;
 mod tables;
 mod take;
 
 pub use classes::{LARGEST_CODE, class_of};
 pub use count::{dec_label, inc_label};
-pub use decide::{code_decision, dec_decision, inc_decision, label_in_use, room_decision};
+pub use decide::{
+    LARGEST_COUNT, code_decision, dec_decision, inc_decision, label_in_use, room_decision,
+};
+pub use entries::entry;
 use interval_store_manager::IntervalStoreManager;
 pub use read::{attribute, attribute_vec, label};
 pub use tables::{LabelLowering, LabelRaising, LabelTables, LabelTaking, LabelWriting};

@@ -63,6 +63,7 @@ fn compact_whole(
 }
 
 // Answers the new free start. Only the first `table_length` entries of the table are points.
+// Kept: the length stands beside the table, since the contract says of what lies past it that it is left as it is.
 #[tactic(auto, unfolding(crate::specs::Compactable::compacted_table))]
 pub fn compact(
     store: &mut [FloatBits],

@@ -21,16 +21,10 @@ fn value_limit(s: Store) -> usize
     s.dimensions
 }
 
-// Which value is too large is not asked, so there is no early exit.
-#[tactic(auto, using(crate::proofs::ListTurns::below_turn, crate::proofs::ListTurns::below_end))]
 fn values_below(values: &[usize], limit: usize) -> bool
     ensures { result ≡ values_below limit values.now }
 {
-    let mut below = true;
-    for value in values {
-        below = below & (*value < limit);
-    }
-    below
+    values.iter().all(|value| *value < limit)
 }
 
 // Where value 0 stands; any other stands as far after it. Rotating, that is a multiple of base, so that no value passes the

@@ -6,25 +6,15 @@ ghost use Rattle.store_definitions.specs.Decisions.{live, refuse_if};
 ghost use Rattle.store_definitions.specs.Memory.{point_store};
 ghost use Rattle.store_counts.specs.Tables.{counts_alone};
 
+use labels::{LARGEST_COUNT, entry};
 use store_definitions::Store;
 use terms::{LabelIndex, PointIndex, Refusal};
-
-// Document 01: 'inc of a point or label count at 65,535'.
-// Kept: the label's largest count stands in `labels`, in the type of its own comparison; they are two bounds of one number.
-const LARGEST_COUNT: usize = 65535;
-
-// A point's count, 0 past the end of the lent slice: as the definitions read a list.
-pub fn point_count(reference_count: &[u16], index: PointIndex) -> usize
-    ensures { result ≡ get_or reference_count.now index.0 0 }
-{
-    reference_count.get(index.0).copied().unwrap_or(0) as usize
-}
 
 #[tactic(auto, using(crate::specs::TestLaws::in_use_below, crate::specs::TestLaws::in_use_beyond))]
 pub fn point_in_use(s: Store, reference_count: &[u16], index: PointIndex) -> bool
     ensures { result ≡ live (point_store s (counts_alone reference_count.now [])) index.0 }
 {
-    (index.0 < s.index_manager.capacity) && (0 < point_count(reference_count, index))
+    (index.0 < s.index_manager.capacity) && (0 < entry(reference_count, index.0, 0))
 }
 
 #[tactic(auto, using(crate::specs::TestLaws::inc_counted, crate::specs::TestLaws::inc_label_refused, crate::specs::TestLaws::inc_dead))]
@@ -48,7 +38,7 @@ pub fn inc_test(
 fn room_to_count(reference_count: &[u16], index: PointIndex) -> Result<(), Refusal>
     ensures { decision_means result ≡ refuse_if (eqb (get_or reference_count.now index.0 0) 65535) 7 }
 {
-    if point_count(reference_count, index) == LARGEST_COUNT {
+    if entry(reference_count, index.0, 0) == LARGEST_COUNT {
         return Err(Refusal::CountFull);
     }
     Ok(())

@@ -1,21 +1,12 @@
 // What an opening writes into the lent tables: the entries that a fresh store has in use, and nothing past them.
-ghost use Rattle.std.specs.Prelude.{true, ◌≡◌, ◌-◌, set};
+ghost use Rattle.std.specs.Prelude.{true, ◌≡◌};
 ghost use Rattle.label_opening.specs.OpeningLaws.{LabelsOpenable};
 ghost use Rattle.labels.specs.Forms.{held};
-ghost use Rattle.labels.specs.Opening.{Openable};
 ghost use Rattle.store_rows.specs.Openings.{PointsReady, points, points_opened, label_managers, labels_opened_if};
 
 use interval_store_manager::IntervalStoreManager;
 use store_definitions::Shape;
 use terms::{EMPTY_PLACE, FloatBits};
-
-// A manager's stack with all indices free. Under what is required the manager's own opening refuses nothing.
-fn open_stack(capacity: usize, starts: &mut [u16], ends: &mut [u16])
-    requires { Openable capacity starts.old ends.old }
-    ensures { (starts.new ≡ set starts.old 0 0) × (ends.new ≡ set ends.old 0 (capacity - 1)) }
-{
-    let _ = IntervalStoreManager::new(capacity, starts, ends);
-}
 
 pub fn open_points(
     shape: Shape,
@@ -34,7 +25,7 @@ pub fn open_points(
     last_known_shingle[..shape.dimensions].fill(0);
     reference_count[..start].fill(0);
     location[..start].fill(EMPTY_PLACE);
-    open_stack(start, index_starts, index_ends);
+    let _ = IntervalStoreManager::new_unchecked(start, index_starts, index_ends);
 }
 
 // With labels off nothing is written.
