@@ -1,5 +1,6 @@
 mod MarkLaws
 mod TestLaws
 mod RiseLaws
+mod PartLaws
 mod StoreLaws
 mod SteadyLaws

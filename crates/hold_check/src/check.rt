@@ -59,24 +59,16 @@ pub fn check_hold(
     ) {
         return None;
     }
-    let found = store_well(
-        s,
-        store.len(),
-        last_known_shingle.len(),
-        tables,
-        h.held,
-        held_indices,
-    )?;
+    let list = &held_indices[..h.held];
+    let found = store_well(s, store.len(), last_known_shingle.len(), tables, list)?;
     let well = list_well(
         found.listed,
         found.figures.live,
-        h.held,
-        s.index_manager.capacity,
         s.capacity,
         s.store_labels,
-        tables.reference_count,
+        &tables.reference_count[..s.index_manager.capacity],
         tables.label_tables.label_count,
-        held_indices,
+        list,
         held_labels,
     );
     well.then_some(found.figures)

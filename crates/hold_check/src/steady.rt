@@ -80,32 +80,26 @@ fn entry_held(free: bool, count: u16, place: u16) -> bool
 }
 
 // No early exit: every entry is read.
-fn entries_held(n: usize, pair: Pair, reference_count: &[u16], location: &[u16]) -> bool
-    requires { (n ≤ 1024) × (((pair.start + pair.more < 65536) × (pair.other + pair.further < 65536)) × ((n ≤ length reference_count.now) × (n ≤ length location.now))) }
-    ensures { result ≡ entries_held n pair.start pair.more pair.other pair.further reference_count.now location.now }
+fn entries_held(pair: Pair, counts: &[u16], location: &[u16]) -> bool
+    requires { (length counts.now ≤ 1024) × (((pair.start + pair.more < 65536) × (pair.other + pair.further < 65536)) × (length counts.now ≤ length location.now)) }
+    ensures { result ≡ entries_held (length counts.now) pair.start pair.more pair.other pair.further counts.now location.now }
 {
     let mut ok = true;
-    for i in 0..n {
+    for i in 0..counts.len() {
         let at = i as u16;
         let first = within(at, pair.start, pair.more);
         let second = within(at, pair.other, pair.further);
-        ok &= entry_held(first | second, reference_count[i], location[i]);
+        ok &= entry_held(first | second, counts[i], location[i]);
     }
     ok
 }
 
 // Whether the row of the newest entry ends by the free start: so do then the rows at lower places.
-fn last_ends(
-    held: usize,
-    base: usize,
-    dimensions: usize,
-    free: usize,
-    location: &[u16],
-    list: &[u16],
-) -> bool
-    requires { ((base ≤ 64) × (dimensions ≤ 64)) × (held ≤ length list.now) }
-    ensures { result ≡ true → slice_index location.now (slice_index list.now (held - 1)) * base + dimensions ≤ free }
+fn last_ends(base: usize, dimensions: usize, free: usize, location: &[u16], list: &[u16]) -> bool
+    requires { (base ≤ 64) × (dimensions ≤ 64) }
+    ensures { result ≡ true → slice_index location.now (slice_index list.now (length list.now - 1)) * base + dimensions ≤ free }
 {
+    let held = list.len();
     if 1 <= held {
         let last = list[held - 1] as usize;
         if last < location.len() {
@@ -122,11 +116,10 @@ pub fn steady(
     location: &[u16],
     index_starts: &[u16],
     index_ends: &[u16],
-    held: usize,
-    held_indices: &[u16],
+    list: &[u16],
 ) -> bool
-    requires { PointsReady s reference_count.now location.now × (held ≤ length held_indices.now) }
-    ensures { result ≡ true → Steady s reference_count.now location.now index_starts.now index_ends.now held held_indices.now }
+    requires { PointsReady s reference_count.now location.now }
+    ensures { result ≡ true → Steady s reference_count.now location.now index_starts.now index_ends.now (length list.now) list.now }
 {
     let manager = s.index_manager;
     let n = manager.capacity;
@@ -134,19 +127,13 @@ pub fn steady(
     let lent = lent_enough(n, index_starts, index_ends);
     if lent & (((1 <= count) & (count <= 2)) & (count <= n)) {
         if let Some(pair) = pair_of(n, count, index_starts, index_ends) {
-            if n - pair.free == held
-                && entries_held(n, pair, reference_count, location)
-                && runs_rise(n, held, location, held_indices)
+            let places = &location[..n];
+            if n - pair.free == list.len()
+                && entries_held(pair, &reference_count[..n], places)
+                && runs_rise(places, list)
             {
                 let base = s.dimensions / s.shingle_size;
-                return last_ends(
-                    held,
-                    base,
-                    s.dimensions,
-                    s.start_free_region,
-                    location,
-                    held_indices,
-                );
+                return last_ends(base, s.dimensions, s.start_free_region, location, list);
             }
         }
     }

@@ -6,4 +6,4 @@ use Rattle.hold_check.proofs.list.once_in.Goals as goal
 
 pub mark_list-requires : goal.mark_list-requires
 mark_list-requires g c =
-    (c.requires.1.1.0, (rw (length-replicate g.row.N false) c.requires.1.0, (c.requires.1.1.1, no_marks g.row.N)))
+    (rw (length-replicate g.row.N false) c.requires.1, no_marks g.row.N)

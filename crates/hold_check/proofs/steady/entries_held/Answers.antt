@@ -13,4 +13,4 @@ pub loop-i-preserved : goal.loop-i-preserved
 loop-i-preserved c =
     let l = c.loop-i in
     let a = c.args in
-    entries_more l.i a.pair.start a.pair.more a.pair.other a.pair.further a.reference_count.now a.location.now l.ok c.within-first.result c.within-second.result c.entry_held-ok.result l.invariant c.within-first.ensures c.within-second.ensures c.entry_held-ok.ensures
+    entries_more l.i a.pair.start a.pair.more a.pair.other a.pair.further a.counts.now a.location.now l.ok c.within-first.result c.within-second.result c.entry_held-ok.result l.invariant c.within-first.ensures c.within-second.ensures c.entry_held-ok.ensures

@@ -20,7 +20,7 @@ returns-then-not-record_well c =
 pub points_listed-requires : goal.points_listed-requires
 points_listed-requires c =
     let a = c.args in
-    (record_ready a.s a.floats a.window (length a.tables.index_starts.now) (length a.tables.index_ends.now) a.tables.reference_count.now a.tables.location.now (sym (c.record_well.ensures ∙ rw c.lengths_of-lent.ensures.lengths refl) ∙ c.if-not-record_well.false), c.requires)
+    record_ready a.s a.floats a.window (length a.tables.index_starts.now) (length a.tables.index_ends.now) a.tables.reference_count.now a.tables.location.now (sym (c.record_well.ensures ∙ rw c.lengths_of-lent.ensures.lengths refl) ∙ c.if-not-record_well.false)
 
 pub returns-in_err-points : goal.returns-in_err-points
 returns-in_err-points c =
