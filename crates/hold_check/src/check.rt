@@ -23,6 +23,7 @@ fn labels_enough(store_labels: bool, capacity: usize, labels: usize) -> bool
 }
 
 // The width, the lengths of the two tables, and how many entries are in use.
+#[tactic(auto, unfolding(crate::specs::CheckLaws::record_holds, hold_definitions::specs::WellFormed::width_allowed))]
 fn record_holds(
     width: usize,
     held: usize,
@@ -38,6 +39,7 @@ fn record_holds(
 }
 
 // What is counted of the store of a hold that is well-formed.
+#[tactic(auto, using(crate::specs::Checked::record_ill))]
 pub fn check_hold(
     h: Hold,
     store: &[FloatBits],

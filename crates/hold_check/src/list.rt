@@ -5,6 +5,7 @@ ghost use Rattle.hold_check.specs.CheckLaws.{list_holds};
 ghost use Rattle.hold_check.specs.Rising.{single_counts, ListKnown};
 
 // Marks an entry that counts has, and says whether its count is 1 and it was not marked yet.
+#[tactic(auto, unfolding(crate::specs::ListedOnce::entry_listed, crate::specs::ListedOnce::entry_marked))]
 fn mark_entry(entry: usize, counts: &[u16], marks: &mut [bool]) -> bool
     requires { length counts.now ≤ length marks.old }
     ensures { (result ≡ entry_listed (length counts.now) counts.now marks.old entry) × (marks.new ≡ entry_marked (length counts.now) marks.old entry) }
@@ -18,6 +19,7 @@ fn mark_entry(entry: usize, counts: &[u16], marks: &mut [bool]) -> bool
 }
 
 // Whether each entry has a count, has count 1 and stands there once.
+// Kept: no plainer: `all` would write the marks in its closure.
 fn mark_list(counts: &[u16], list: &[u16], marks: &mut [bool]) -> bool
     requires { (length counts.now ≤ length marks.old) × NoMarks marks.old }
     ensures { result ≡ listed_once (length counts.now) counts.now list.now }
@@ -30,6 +32,7 @@ fn mark_list(counts: &[u16], list: &[u16], marks: &mut [bool]) -> bool
 }
 
 // With a table of N marks.
+#[tactic(auto, using(crate::proofs::MarkLaws::no_marks))]
 fn once_in<const N: usize>(counts: &[u16], list: &[u16]) -> bool
     requires { (N ≤ 1024) × (length counts.now ≤ N) }
     ensures { result ≡ listed_once (length counts.now) counts.now list.now }
@@ -50,6 +53,8 @@ fn listed_once(counts: &[u16], list: &[u16]) -> bool
 }
 
 // Whether no count is above 1.
+// Kept: compiled to vector code, as the machine code shows; `all` would branch at each count.
+#[tactic(auto, using(crate::proofs::TestLaws::every_more), unfolding(crate::specs::Rising::single_counts, terms::specs::Below::every_below))]
 pub fn counts_single(counts: &[u16]) -> bool
     ensures { result ≡ single_counts (length counts.now) counts.now }
 {
@@ -75,6 +80,7 @@ fn points_once(listed: bool, live: usize, counts: &[u16], list: &[u16]) -> bool
 }
 
 // The points' list; the labels' with labels on.
+#[tactic(auto, using(crate::proofs::PartLaws::once_part), unfolding(crate::specs::CheckLaws::list_holds))]
 pub fn list_well(
     listed: bool,
     live: usize,

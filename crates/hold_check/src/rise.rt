@@ -6,6 +6,8 @@ ghost use Rattle.hold_check.specs.Rising.{Rises};
 ghost use Rattle.hold_check.specs.Runs.{turned, runs_listed, falls, falls_before, RunsRise};
 
 // Whether every entry is below n.
+// Kept: compiled to vector code, as the machine code shows; `all` would branch at each entry.
+#[tactic(auto, using(crate::proofs::TestLaws::every_more), unfolding(terms::specs::Below::every_below))]
 fn listed_below(n: u16, list: &[u16]) -> bool
     ensures { result ≡ every_below (length list.now) (λ k. nat_lt (slice_index list.now k) n) }
 {
@@ -17,6 +19,8 @@ fn listed_below(n: u16, list: &[u16]) -> bool
 }
 
 // Whether the entries are found at places that rise. Falls are counted, so that the loop has no branch.
+// Kept: no plainer: `next` comes from the entry before, and pairs of entries would look each place up twice.
+#[tactic(auto, using(crate::specs::Rising::rises_none, crate::proofs::RiseLaws::listed_at))]
 fn places_rise(location: &[u16], list: &[u16]) -> bool
     requires { length location.now ≤ 1024 }
     ensures { result ≡ true → Rises (length location.now) 65535 location.now list.now }
@@ -36,6 +40,7 @@ fn places_rise(location: &[u16], list: &[u16]) -> bool
 }
 
 // The index that `at` names where indices are counted on from 0 after `end`.
+#[tactic(auto, using(crate::specs::Runs::turned_below, crate::specs::Runs::turned_on))]
 fn turn(end: u16, at: u16) -> u16
     ensures { result ≡ turned end at }
 {
@@ -46,6 +51,8 @@ fn turn(end: u16, at: u16) -> u16
 }
 
 // Whether the entries are first, first + 1, .. below `end`, and then 0, 1, ..
+// Kept: compiled to vector code, as the machine code shows; `all` would branch at each entry.
+#[tactic(auto, using(crate::proofs::TestLaws::every_more), unfolding(crate::specs::Runs::runs_listed, terms::specs::Below::every_below))]
 fn runs_listed(first: usize, end: u16, list: &[u16]) -> bool
     requires { (first ≤ 1024) × (length list.now ≤ 1024) }
     ensures { result ≡ runs_listed (length list.now) first end list.now }
@@ -57,7 +64,9 @@ fn runs_listed(first: usize, end: u16, list: &[u16]) -> bool
     ok
 }
 
-// How many of the first places are not below the next. Counted in sixteen bits, so that eight are compared at a time.
+// How many of the first `to` places are not below the next. Counted in sixteen bits, so that eight are compared at a time.
+// Kept: compiled to vector code, as the machine code shows; what is compared is one place more than `to`, so no part of the slice says it.
+#[tactic(auto, using(crate::proofs::RiseLaws::count_more, crate::proofs::RiseLaws::fall_most, terms::specs::Below::count_le), unfolding(terms::specs::Below::count_below, terms::specs::Below::sum_below))]
 fn places_fall(to: usize, location: &[u16]) -> u16
     requires { (to ≤ 1024) × (to < length location.now) }
     ensures { result ≡ count_below to (falls location.now) }

@@ -22,6 +22,7 @@ struct Pair {
 }
 
 // Whether the intervals lie below n and share no index.
+#[tactic(auto, unfolding(crate::specs::Steady::pair_apart))]
 fn pair_apart(n: usize, count: usize, start: u16, end: u16, other: u16, last: u16) -> bool
     ensures { result ≡ pair_apart n count start end other last }
 {
@@ -31,6 +32,7 @@ fn pair_apart(n: usize, count: usize, start: u16, end: u16, other: u16, last: u1
     (ordered & below) & apart
 }
 
+#[tactic(auto, unfolding(crate::specs::Steady::pair_size))]
 fn pair_size(count: usize, more: u16, further: u16) -> usize
     ensures { result ≡ pair_size count more further }
 {
@@ -40,6 +42,8 @@ fn pair_size(count: usize, more: u16, further: u16) -> usize
     more as usize + further as usize + 2
 }
 
+// Kept: no plainer: what is shown of a stack (`Sound`) speaks of all that is lent, of which n entries may be used and `count` are.
+#[tactic(auto, using(crate::proofs::SteadyLaws::pair_tested))]
 fn pair_of(n: usize, count: usize, starts: &[u16], ends: &[u16]) -> Option<Pair>
     requires { ((1 ≤ count) × (count ≤ 2)) × ((count ≤ n) × ((n ≤ 1024) × ((n ≤ length starts.now) × (n ≤ length ends.now)))) }
     ensures { IfSome result (λ pair. PairOf n count starts.now ends.now pair.start pair.more pair.other pair.further pair.free) }
@@ -63,6 +67,7 @@ fn pair_of(n: usize, count: usize, starts: &[u16], ends: &[u16]) -> Option<Pair>
 }
 
 // Whether the interval holds the index: by one comparison, since a difference that wraps is larger than every interval.
+#[tactic(auto, using(crate::proofs::SteadyLaws::within_is))]
 fn within(at: u16, start: u16, more: u16) -> bool
     requires { start + more < 65536 }
     ensures { result ≡ inside start (start + more) at }
@@ -71,6 +76,7 @@ fn within(at: u16, start: u16, more: u16) -> bool
 }
 
 // A free index has count 0 and no place, any other count 1 and a place.
+#[tactic(auto, using(crate::proofs::RiseLaws::fall_one), unfolding(crate::specs::Steady::entry_held))]
 fn entry_held(free: bool, count: u16, place: u16) -> bool
     ensures { result ≡ entry_held free count place }
 {
@@ -80,6 +86,8 @@ fn entry_held(free: bool, count: u16, place: u16) -> bool
 }
 
 // No early exit: every entry is read.
+// Kept: compiled to vector code, as the machine code shows; `all` would branch at each entry.
+#[tactic(auto, using(crate::proofs::SteadyLaws::entries_more), unfolding(crate::specs::Steady::entries_held, terms::specs::Below::every_below))]
 fn entries_held(pair: Pair, counts: &[u16], location: &[u16]) -> bool
     requires { (length counts.now ≤ 1024) × (((pair.start + pair.more < 65536) × (pair.other + pair.further < 65536)) × (length counts.now ≤ length location.now)) }
     ensures { result ≡ entries_held (length counts.now) pair.start pair.more pair.other pair.further counts.now location.now }
@@ -110,6 +118,7 @@ fn last_ends(base: usize, dimensions: usize, free: usize, location: &[u16], list
 }
 
 // Whether the points' half is well-formed and the list names each live point once, each with count 1, seen in this way.
+#[tactic(auto, using(interval_store_manager::specs::Sound::free_le_capacity, crate::proofs::SteadyLaws::few_tested, crate::proofs::SteadyLaws::table_most, crate::proofs::SteadyLaws::shingles))]
 pub fn steady(
     s: Store,
     reference_count: &[u16],

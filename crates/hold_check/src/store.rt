@@ -55,6 +55,7 @@ fn rising_single(rises: bool, counts: &[u16]) -> bool
     false
 }
 
+#[tactic(auto, using(crate::proofs::SteadyLaws::table_most, crate::proofs::SteadyLaws::places_room, crate::proofs::PartLaws::sized))]
 fn points_listed(
     s: Store,
     reference_count: &[u16],
@@ -86,6 +87,7 @@ fn points_listed(
     None
 }
 
+// Kept: no plainer: `store_check::check` has other tests of the points, and one form would take them as a closure and its answer as a type.
 pub fn store_well(
     s: Store,
     floats: usize,

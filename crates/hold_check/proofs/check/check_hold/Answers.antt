@@ -5,15 +5,9 @@ use Rattle.hold_definitions.specs.Lent.{hold_lent}
 use Rattle.hold_definitions.specs.Memory.{point_hold, store_of}
 use Rattle.store_check.specs.Checked.{checked_lengths, checked_some}
 use Rattle.hold_check.specs.CheckLaws.{readable, list_ready}
-use Rattle.hold_check.specs.Checked.{figures_found, record_ill, store_ill, by_list}
+use Rattle.hold_check.specs.Checked.{figures_found, store_ill, by_list}
 use Rattle.hold_check.proofs.PartLaws.{sized, list_part}
 use Rattle.hold_check.proofs.check.check_hold.Goals as goal
-
-pub returns-then-not-record_holds : goal.returns-then-not-record_holds
-returns-then-not-record_holds c =
-    let a = c.args in
-    let h = point_hold a.h (hold_lent a.store.now a.last_known_shingle.now a.tables a.held_indices.now a.held_labels.now) in
-    record_ill h (sym c.record_holds.ensures ∙ c.if-not-record_holds.true)
 
 pub slice_bounds-list-end : goal.slice_bounds-list-end
 slice_bounds-list-end c =

@@ -12,11 +12,3 @@ returns-then-store_labels c =
     let on = c.requires.1 c.if-store_labels.true in
     rw (take-length a.list.now, sym c.points_once.ensures ∙ c.if-points_once.true, c.if-store_labels.true)
     (c.listed_once.ensures ∙ once_part a.capacity a.label_count.now on.1.0 (take (length a.list.now) a.held_labels.now))
-
-pub returns-then-points_once : goal.returns-then-points_once
-unfolding list_holds
-returns-then-points_once c = rw (take-length c.args.list.now, sym c.points_once.ensures ∙ c.if-points_once.true, c.if-store_labels.false)
-
-pub returns : goal.returns
-unfolding list_holds
-returns c = rw (take-length c.args.list.now, sym c.points_once.ensures ∙ c.if-points_once.false)

@@ -2,9 +2,9 @@
 use Rattle.std.proofs.Common.{sym, refl, ◌∙◌}
 use Rattle.store_definitions.specs.WellFormed.{places_distinct}
 use Rattle.store_definitions.specs.Parts.{table_length}
-use Rattle.hold_check.proofs.PartLaws.{sized, distinct_part, below_part}
+use Rattle.hold_check.proofs.PartLaws.{distinct_part, below_part}
 use Rattle.hold_check.proofs.StoreLaws.{list_distinct, list_known, points_by, steady_known}
-use Rattle.hold_check.proofs.SteadyLaws.{table_most, counts_room, places_room}
+use Rattle.hold_check.proofs.SteadyLaws.{counts_room, places_room}
 use Rattle.hold_check.proofs.store.points_listed.Goals as goal
 
 pub returns-then-steady : goal.returns-then-steady
@@ -13,12 +13,6 @@ returns-then-steady c =
     let a = start.args in
     let t = c.steady.ensures c.if-steady.true in
     (sym t.points, (t.live, steady_known a.s a.reference_count.now a.location.now a.index_starts.now a.index_ends.now (counts_room a.s a.reference_count.now a.location.now start.requires) a.list.now t))
-
-pub live_rise-rises-requires : goal.live_rise-rises-requires
-live_rise-rises-requires c =
-    let start = c in
-    let a = start.args in
-    rw (sized (table_length a.s) a.location.now (places_room a.s a.reference_count.now a.location.now start.requires)) (table_most a.s a.reference_count.now a.location.now start.requires)
 
 pub distinct-requires : goal.distinct-requires
 distinct-requires c =
