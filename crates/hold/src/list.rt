@@ -37,6 +37,7 @@ pub fn push_both(
     }
 }
 
+// Kept: no plainer: with labels off the labels' table may be shorter than the list, so the callers have no part of it.
 #[tactic(auto, using(crate::specs::Moves::slid_part))]
 pub fn slide_both(
     store_labels: bool,

@@ -20,6 +20,7 @@ fn mark_entry(entry: usize, counts: &[u16], marks: &mut [bool]) -> bool
 
 // Whether each entry has a count, has count 1 and stands there once.
 // Kept: no plainer: `all` would write the marks in its closure.
+#[tactic(auto, using(crate::specs::ListedOnce::marks_none), unfolding(crate::specs::ListedOnce::listed_once, hold_definitions::specs::Listed::every_named))]
 fn mark_list(counts: &[u16], list: &[u16], marks: &mut [bool]) -> bool
     requires { (length counts.now ≤ length marks.old) × NoMarks marks.old }
     ensures { result ≡ listed_once (length counts.now) counts.now list.now }
@@ -80,6 +81,7 @@ fn points_once(listed: bool, live: usize, counts: &[u16], list: &[u16]) -> bool
 }
 
 // The points' list; the labels' with labels on.
+// Kept: no plainer: with labels off the labels' two tables may be of any length, so the callers have no parts of them.
 #[tactic(auto, using(crate::proofs::PartLaws::once_part), unfolding(crate::specs::CheckLaws::list_holds))]
 pub fn list_well(
     listed: bool,

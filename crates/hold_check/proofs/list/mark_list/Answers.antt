@@ -1,12 +1,7 @@
 -- The invariant: what is found of the entries so far, which are marked.
-use Rattle.std.proofs.Common.{◌≡◌, ℕ, ◌+◌, ◌≤◌, List, [], ◌∷◌, ◌++◌, length, get_or, take, refl, ap, ◌∙◌, add-one, arith, take-suc, take_all}
-use Rattle.hold_definitions.specs.Listed.{every_named}
-use Rattle.hold_check.specs.ListedOnce.{listed_once, marks_none, marks_more, listed_more}
+use Rattle.std.proofs.Common.{◌≡◌, ℕ, ◌+◌, ◌≤◌, [], ◌∷◌, ◌++◌, length, get_or, take, ap, ◌∙◌, add-one, arith, take-suc}
+use Rattle.hold_check.specs.ListedOnce.{marks_more, listed_more}
 use Rattle.hold_check.proofs.list.mark_list.Goals as goal
-
-pub loop-entry-init : goal.loop-entry-init
-unfolding listed_once every_named
-loop-entry-init c = (refl, (refl, marks_none (length c.args.counts.now) c.args.marks.now c.requires.1))
 
 pub loop-entry-preserved : goal.loop-entry-preserved
 loop-entry-preserved c =
@@ -24,9 +19,3 @@ loop-entry-preserved c =
         rw (more, e.1) (marks_more n a.counts.now (take k a.list.now) c.loop-entry.marks v.1.1 lent x),
       ),
     )
-
-pub returns : goal.returns
-returns c =
-    let a = c.args in
-    let l = c.loop-entry in
-    l.invariant.1.0 ∙ ap (λ (xs : List ℕ). listed_once (length a.counts.now) a.counts.now xs) (take_all l.entry-index a.list.now c.loop-entry-test.false)

@@ -1,10 +1,9 @@
 -- Each way out is one of the laws of the check of a store.
-use Rattle.std.proofs.Common.{length, refl, sym, ◌∙◌}
+use Rattle.std.proofs.Common.{refl, sym, ◌∙◌}
 use lib.ListN.{length-replicate}
 use Rattle.store_definitions.specs.Memory.{point_store}
 use Rattle.store_definitions.specs.Parts.{table_length, label_half}
 use Rattle.store_check.specs.Tables.{tables_lent}
-use Rattle.store_check.specs.CheckLaws.{record_ready}
 use Rattle.store_check.specs.PointsTest.{points_test}
 use Rattle.store_check.specs.Entries.{counts_live}
 use Rattle.store_check.proofs.CheckedLaws.{record_ill, points_ill, labels_ill, all_well}
@@ -16,11 +15,6 @@ returns-then-not-record_well c =
     let a = c.args in
     let q = point_store a.s (tables_lent a.floats a.window a.tables) in
     (record_ill q a.floats a.window (length-replicate {A = Unit {0}} a.floats tt) (length-replicate {A = Unit {0}} a.window tt) c.lengths_of-lent.ensures.fit (sym (c.record_well.ensures ∙ rw c.lengths_of-lent.ensures.lengths refl) ∙ c.if-not-record_well.true), tt)
-
-pub points_listed-requires : goal.points_listed-requires
-points_listed-requires c =
-    let a = c.args in
-    record_ready a.s a.floats a.window (length a.tables.index_starts.now) (length a.tables.index_ends.now) a.tables.reference_count.now a.tables.location.now (sym (c.record_well.ensures ∙ rw c.lengths_of-lent.ensures.lengths refl) ∙ c.if-not-record_well.false)
 
 pub returns-in_err-points : goal.returns-in_err-points
 returns-in_err-points c =
