@@ -88,7 +88,7 @@ fn points_listed(
 }
 
 // Kept: no plainer: `store_check::check` has other tests of the points, and one form would take them as a closure and its answer as a type.
-#[tactic(auto, using(store_check::specs::CheckLaws::record_ready))]
+#[tactic(auto, using(store_check::specs::CheckLaws::record_ready, crate::proofs::StoreLaws::record_failed, crate::proofs::StoreLaws::points_failed, crate::proofs::StoreLaws::labels_failed, crate::proofs::StoreLaws::all_found, crate::proofs::StoreLaws::labels_off))]
 pub fn store_well(
     s: Store,
     floats: usize,
