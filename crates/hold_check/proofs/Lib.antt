@@ -3,4 +3,5 @@ mod TestLaws
 mod RiseLaws
 mod PartLaws
 mod StoreLaws
+mod HoldLaws
 mod SteadyLaws

@@ -83,6 +83,12 @@ module _ (s : Store) (counts location starts ends : List ℕ) where
   pub points_by : {t d : Bool} → t ≡ table_test s counts location starts ends → d ≡ places_distinct n location → (t && d) ≡ points_test s counts location starts ends
   points_by e f = ap₂ (λ (a b : Bool). a && b) e f ∙ points_are s counts location starts ends
 
+  pub table_failed : false ≡ table_test s counts location starts ends → false ≡ points_test s counts location starts ends
+  table_failed e = points_by {d = places_distinct n location} e refl
+
+  pub distinct_failed : true ≡ table_test s counts location starts ends → n ≤ length location → false ≡ places_distinct (length (take n location)) (take n location) → false ≡ points_test s counts location starts ends
+  distinct_failed e lent f = points_by e (f ∙ distinct_part n location lent)
+
   -- by the first n counts and places
   module _ (live limit : ℕ) (f : TableFound s counts location live limit) (w : table_test s counts location starts ends ≡ true) (counts_lent : n ≤ length counts) (lent : n ≤ length location) (list : List ℕ) (rises : Bool) (r : rises ≡ true → (length list ≡ live) × Rises (length (take n location)) 65535 (take n location) list) where
     pub list_distinct : rises ≡ true → places_distinct (length (take n location)) (take n location) ≡ true

@@ -39,7 +39,7 @@ fn record_holds(
 }
 
 // What is counted of the store of a hold that is well-formed.
-#[tactic(auto, using(crate::specs::Checked::record_ill))]
+#[tactic(auto, using(crate::specs::Checked::record_ill, crate::proofs::HoldLaws::found_ill, crate::proofs::HoldLaws::found_by_list))]
 pub fn check_hold(
     h: Hold,
     store: &[FloatBits],

@@ -55,7 +55,7 @@ fn rising_single(rises: bool, counts: &[u16]) -> bool
     false
 }
 
-#[tactic(auto, using(crate::proofs::SteadyLaws::table_most, crate::proofs::SteadyLaws::places_room, crate::proofs::PartLaws::sized))]
+#[tactic(auto, using(crate::proofs::SteadyLaws::table_most, crate::proofs::SteadyLaws::places_room, crate::proofs::PartLaws::sized, crate::proofs::StoreLaws::table_failed, crate::proofs::StoreLaws::distinct_failed))]
 fn points_listed(
     s: Store,
     reference_count: &[u16],
