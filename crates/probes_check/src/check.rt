@@ -27,7 +27,7 @@ fn tallies_within(sequence: u32, tallies: [u32; 8]) -> bool
 }
 
 // What is counted of the store of a product that is well-formed.
-#[tactic(auto, using(crate::specs::Checked::store_ill))]
+#[tactic(auto, using(crate::specs::Checked::lent_ill, crate::specs::Checked::lent_tests))]
 pub fn check_probes(
     p: Probes,
     store: &[FloatBits],
