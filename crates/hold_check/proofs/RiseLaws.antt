@@ -2,7 +2,7 @@
 use Rattle.std.proofs.Common.{◌≡◌, ℕ, suc, ◌+◌, ◌-◌, ◌<◌, ◌≤◌, Bool, true, false, ◌&&◌, ◌||◌, eqb, ltb, leb, List, [], ◌∷◌, ◌++◌, length, get_or, take, sym, refl, ap, ◌∙◌, add-one, arith, take-suc, ltb-false, ltb-true, eqb-true, leb-true}
 use mir.Val.{bool_byte}
 use borrow.Author.Tests.{lt-leb}
-use Rattle.terms.specs.Below.{one, both, sum_below, count_below}
+use Rattle.terms.specs.Below.{one, both, every_below, every_at, sum_below, count_below}
 use Rattle.hold_check.specs.Rising.{Rises, rises_more}
 use Rattle.hold_check.specs.Runs.{runs_listed, falls, falls_before, RunsRise, runs_rise}
 
@@ -17,6 +17,10 @@ fall_one false = refl
 pub count_more : (i : ℕ) (p : ℕ → Bool) (count : ℕ) → count ≡ count_below i p → count + bool_byte (p i) ≡ count_below (i + 1) p
 unfolding count_below sum_below
 count_more i p count e = rw (add-one i) (omega (arith, e, fall_one (p i)))
+
+-- an entry of a list whose entries are below n
+pub listed_at : (n : ℕ) (list : List ℕ) (k : ℕ) → every_below (length list) (λ j. ltb (get_or list j 0) n) ≡ true → k < length list → get_or list k 0 < n
+listed_at n list k e l = ltb-true (get_or list k 0) n (every_at (length list) (λ j. ltb (get_or list j 0) n) e k l)
 
 -- the tests before the runs are looked at, taken apart
 pub some_held : (n held : ℕ) → (leb 1 held && leb held n) ≡ true → (1 ≤ held) × (held ≤ n)

@@ -23,6 +23,7 @@ fn labels_enough(store_labels: bool, capacity: usize, labels: usize) -> bool
 }
 
 // The width, the lengths of the two tables, and how many entries are in use.
+#[tactic(auto, unfolding(crate::specs::CheckLaws::record_holds, hold_definitions::specs::WellFormed::width_allowed))]
 fn record_holds(
     width: usize,
     held: usize,
@@ -38,6 +39,7 @@ fn record_holds(
 }
 
 // What is counted of the store of a hold that is well-formed.
+#[tactic(auto, using(crate::specs::Checked::record_ill, crate::proofs::HoldLaws::found_ill, crate::proofs::HoldLaws::found_by_list))]
 pub fn check_hold(
     h: Hold,
     store: &[FloatBits],
@@ -59,24 +61,16 @@ pub fn check_hold(
     ) {
         return None;
     }
-    let found = store_well(
-        s,
-        store.len(),
-        last_known_shingle.len(),
-        tables,
-        h.held,
-        held_indices,
-    )?;
+    let list = &held_indices[..h.held];
+    let found = store_well(s, store.len(), last_known_shingle.len(), tables, list)?;
     let well = list_well(
         found.listed,
         found.figures.live,
-        h.held,
-        s.index_manager.capacity,
         s.capacity,
         s.store_labels,
-        tables.reference_count,
+        &tables.reference_count[..s.index_manager.capacity],
         tables.label_tables.label_count,
-        held_indices,
+        list,
         held_labels,
     );
     well.then_some(found.figures)

@@ -18,6 +18,7 @@ fn any_above(limit: u8, kinds: &[u8]) -> bool
 }
 
 // Eight kinds and eight words, else 3; then 11; then 16.
+#[tactic(auto, using(crate::specs::Deciding::kinds_short, crate::specs::Deciding::words_short, crate::specs::Deciding::kind_unknown, crate::specs::Deciding::none_earlier, crate::specs::Deciding::none_absent, crate::specs::Deciding::some_earlier))]
 pub fn set_decision(sequence: u32, kinds: &[u8], words: usize) -> Result<(), Refusal>
     ensures { decision_means result ≡ set_asked sequence kinds.now words }
 {

@@ -10,6 +10,7 @@ fn word_stored(kind: u8, word: FloatBits, last: FloatBits) -> FloatBits
     if kind < 2 { word } else { last }
 }
 
+#[tactic(auto, using(crate::specs::Entries::written_all, probes_definitions::specs::ReadingLaws::filled_length, probes_definitions::specs::ReadingLaws::kinds_length))]
 fn fill(last: &[FloatBits], kinds: &[u8], words: &[FloatBits]) -> [FloatBits; 8]
     requires { (length last.now ≡ 8) × ((length kinds.now ≡ 8) × (length words.now ≡ 8)) }
     ensures { result ≡ filled (of_kinds kinds.now words.now) last.now }

@@ -9,6 +9,7 @@ fn estimate_of(kind: u8) -> u32
 }
 
 // An estimate more for each probe whose kind is Estimated.
+#[tactic(auto, using(crate::specs::Entries::written_all, crate::specs::Entries::tallied_long))]
 pub fn tallied(tallies: [u32; 8], kinds: &[u8]) -> [u32; 8]
     requires { (length kinds.now ≡ 8) × ((k : ℕ) → k < 8 → get_or tallies k 0 < 4294967295) }
     ensures { result ≡ tallied_kinds kinds.now tallies }

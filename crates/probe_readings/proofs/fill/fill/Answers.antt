@@ -4,7 +4,7 @@ use mathlib.Core.Path.{sym, ◌∙◌}
 use lib.ListN.{length-set}
 use Rattle.probes_definitions.specs.Readings.{filled, of_kinds}
 use Rattle.probes_definitions.specs.ReadingLaws.{filled_length, kinds_length}
-use Rattle.probe_readings.specs.Entries.{written_more, written_all, filled_at}
+use Rattle.probe_readings.specs.Entries.{written_more, filled_at}
 use Rattle.probe_readings.proofs.fill.fill.Goals as goal
 
 pub loop-k-preserved : goal.loop-k-preserved
@@ -21,14 +21,3 @@ loop-k-preserved c =
           (c.word_stored.ensures ∙ sym (filled_at a.kinds.now a.words.now a.last.now l.k (omega (arith, below, q.1.0)) (omega (arith, below, q.1.1)) (omega (arith, below, q.0))))
           l.invariant.1,
     )
-
-pub returns : goal.returns
-returns c =
-    let s = c in
-    let a = s.args in
-    let l = c.loop-k in
-    let q = s.requires in
-    let same = q.1.0 ∙ sym q.1.1 in
-    let long = filled_length (of_kinds a.kinds.now a.words.now) a.last.now (omega (arith, kinds_length a.kinds.now a.words.now same, q.0, q.1.0)) ∙ kinds_length a.kinds.now a.words.now same ∙ q.1.0 in
-    let past = c.loop-k-test.false in
-    written_all (filled (of_kinds a.kinds.now a.words.now) a.last.now) l.set l.k (omega (arith, past, long)) (omega (arith, past, l.invariant.0)) l.invariant.1
