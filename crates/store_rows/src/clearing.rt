@@ -1,10 +1,11 @@
 // What an opening writes into the lent tables: the entries that a fresh store has in use, and nothing past them.
 ghost use Rattle.std.specs.Prelude.{true, ◌≡◌};
 ghost use Rattle.label_opening.specs.OpeningLaws.{LabelsOpenable};
-ghost use Rattle.labels.specs.Forms.{held};
+ghost use Rattle.labels.specs.Lent.{SameWriting, labels_writing};
 ghost use Rattle.store_rows.specs.Openings.{PointsReady, points, points_opened, label_managers, labels_opened_if};
 
 use interval_store_manager::IntervalStoreManager;
+use labels::LabelWriting;
 use store_definitions::Shape;
 use terms::{EMPTY_PLACE, FloatBits};
 
@@ -29,34 +30,23 @@ pub fn open_points(
 }
 
 // With labels off nothing is written.
-pub fn open_labels(
-    store_labels: bool,
-    capacity: usize,
-    labels: &mut [u8],
-    label_attributes: &mut [u16],
-    label_count: &mut [u16],
-    label_starts: &mut [u16],
-    label_ends: &mut [u16],
-    attributes: &mut [u8],
-    attribute_count: &mut [u32],
-    attribute_starts: &mut [u16],
-    attribute_ends: &mut [u16],
-)
-    requires { store_labels ≡ true → LabelsOpenable capacity labels.old label_attributes.old label_count.old label_starts.old label_ends.old attributes.old attribute_count.old attribute_starts.old attribute_ends.old }
-    ensures { held (label_managers capacity) labels.new label_attributes.new label_count.new label_starts.new label_ends.new attributes.new attribute_count.new attribute_starts.new attribute_ends.new ≡ labels_opened_if store_labels capacity (held (label_managers capacity) labels.old label_attributes.old label_count.old label_starts.old label_ends.old attributes.old attribute_count.old attribute_starts.old attribute_ends.old) }
+pub fn open_labels(store_labels: bool, capacity: usize, labels: &mut LabelWriting)
+    requires { store_labels ≡ true → LabelsOpenable capacity labels.old.labels.now labels.old.label_attributes.now labels.old.label_count.now labels.old.label_starts.now labels.old.label_ends.now labels.old.attributes.now labels.old.attribute_count.now labels.old.attribute_starts.now labels.old.attribute_ends.now }
+    ensures same { SameWriting labels.old labels.new }
+    ensures opened { labels_writing (label_managers capacity) labels.new ≡ labels_opened_if store_labels capacity (labels_writing (label_managers capacity) labels.old) }
 {
     if store_labels {
         label_opening::open_labels(
             capacity,
-            labels,
-            label_attributes,
-            label_count,
-            label_starts,
-            label_ends,
-            attributes,
-            attribute_count,
-            attribute_starts,
-            attribute_ends,
+            labels.labels,
+            labels.label_attributes,
+            labels.label_count,
+            labels.label_starts,
+            labels.label_ends,
+            labels.attributes,
+            labels.attribute_count,
+            labels.attribute_starts,
+            labels.attribute_ends,
         );
     }
 }
