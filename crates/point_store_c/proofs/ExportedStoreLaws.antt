@@ -1,16 +1,18 @@
 -- From what a call of the store ensures to what the exported call owes, for any of the definitions f.
-use Rattle.std.specs.Prelude.{ℕ, ◌≤◌, ◌<◌, Bool, true, false, cond, ◌&&◌, ◌≡◌, refl, leb, length}
+use Rattle.std.specs.Prelude.{ℕ, ◌≤◌, ◌<◌, Bool, true, false, cond, ◌≡◌, refl, Result, Ok, Err, length}
+use Rattle.std.specs.Result.{MatchResult, IsOkAnd}
 use mathlib.Core.List.{List, []}
 use Rattle.std.proofs.Common.{sym, ◌∙◌}
 use Rattle.std.proofs.Math.Path.{ap}
 use borrow.Author.Tests.{le-leb, lt-leb}
+use mir.Val.{bool_byte}
+use Rattle.terms.specs.declared.Refusal.{Refusal}
 use Rattle.interval_store_manager.specs.Calls.{Decided, go, refuse}
 use Rattle.labels.specs.Counted.{raised}
 use Rattle.labels.specs.Labels.{label_raised}
 use Rattle.store_definitions.specs.declared.Store.{Store}
 use Rattle.store_definitions.specs.declared.Shape.{Shape}
-use Rattle.store_definitions.specs.Answers.{Answer, done, refused, Outcome, outcome, Output, output}
-use Rattle.store_definitions.specs.Bounds.{bounds_hold, start_allowed}
+use Rattle.store_definitions.specs.Answers.{Answer, done, refused, number_means, equality_means, Outcome, outcome, output}
 use Rattle.store_definitions.specs.Counting.{inc_test, incremented, inc_spec}
 use Rattle.store_definitions.specs.Decisions.{and_then, form_decided, carried_out}
 use Rattle.store_definitions.specs.Memory.{Memory, PointStore, point_store}
@@ -62,15 +64,18 @@ module _ (words : List ℕ) (m : Memory ℕ) (s : Store) (read_in : s ≡ store_
         let same : after ≡ store_in words = ap (λ (o : Outcome ℕ). o.after.header) ensures ∙ h ∙ read_in in
         call_exported xs ys n words (sym (record_kept words) ∙ ap (recorded words) (sym same)) e
 
-  pub reading_exported : (f : PointStore ℕ → Answer) (a : Answer) → a ≡ f (point_store s m) → (xs ys : List ℕ) (n : ℕ) → read n ys ≡ exported_reading xs a → read n ys ≡ exported_reading xs (f (point_store (store_in words) m))
-  reading_exported f a ensures xs ys n e =
-      e ∙ ap (exported_reading xs) (ensures ∙ ap (λ (t : Store). f (point_store t m)) read_in)
+-- an answer that has an output is read without a lent number
+pub output_read : {X : Type 0} (a : Answer) (out : List X) (n : ℕ) → read n [] ≡ exported_reading [] a → written n out ≡ exported_output (output a out)
+unfolding exported_reading exported_output
+output_read a out n e = ap (λ (r : Read). written r.value out) e
 
-  pub output_exported : {X : Type 0} (f : PointStore ℕ → Output X) (a : Answer) (out : List X) → output a out ≡ f (point_store s m) → (n : ℕ) → read n [] ≡ exported_reading [] a → written n out ≡ exported_output (f (point_store (store_in words) m))
-  unfolding exported_reading exported_output
-  output_exported {X} f a out ensures n e =
-      ap (λ (r : Read). written r.value out) e
-      ∙ ap exported_output (ensures ∙ ap (λ (t : Store). f (point_store t m)) read_in)
+-- a truth value is lent as a number
+pub truth_as_number : (r : Result Bool Refusal) (k : Result ℕ Refusal) → MatchResult r (λ b. IsOkAnd k (λ n. n ≡ bool_byte b)) (λ e. k ≡ Err e) → (xs : List ℕ) → exported_reading xs (number_means k) ≡ exported_reading xs (equality_means r)
+unfolding exported_reading
+truth_as_number (Ok true) (Ok n) e xs = rw e
+truth_as_number (Ok false) (Ok n) e xs = rw e
+truth_as_number (Ok b) (Err why) e xs = absurd e
+truth_as_number (Err why) k e xs = rw e
 
 -- inc changes counts alone
 pub inc_keeps : (p : PointStore ℕ) (i l : ℕ) → (inc_spec p i l).after.header ≡ p.header
