@@ -10,6 +10,7 @@ pub const PROBES_WORDS: usize = 47;
 // From here on one word a tally.
 const TALLY_WORDS: usize = 39;
 
+// Kept: tallies have loops of their own beside those of `class_words`, since one for both would take the cast as a closure.
 // A tally has 32 bits.
 const TALLY_END: u64 = 0x1_0000_0000;
 
