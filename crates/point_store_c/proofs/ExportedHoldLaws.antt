@@ -34,6 +34,12 @@ module _ (words : List ℕ) (m : HoldMemory ℕ) (h : Hold) (read_in : h ≡ hol
       ∙ ap (λ (r : Read). hold_exported r.value (hold_recorded words after) r.numbers m') e
       ∙ ap (hold_exported_call words xs) (ensures ∙ ap (λ (t : Hold). f (point_hold t m)) read_in)
 
+-- an answer with the hold after the call, read with the lent numbers
+pub hold_call_read : {a : Answer} {after : Hold} {m : HoldMemory ℕ} {o : HoldOutcome ℕ} → hold_outcome a (point_hold after m) ≡ o → (words xs ys : List ℕ) (n : ℕ) → read n ys ≡ exported_reading xs a → hold_exported n (hold_recorded words after) ys m ≡ hold_exported_call words xs o
+unfolding exported_reading hold_exported_call
+hold_call_read {a = a} {after = after} {m = m} ensures words xs ys n e =
+    ap (λ (r : Read). hold_exported r.value (hold_recorded words after) r.numbers m) e ∙ ap (hold_exported_call words xs) ensures
+
 module _ (words : List ℕ) (s asked : Shape) (read_in : s ≡ asked) (width : ℕ) (text : List ℕ) (m : HoldMemory ℕ) where
   pub hold_open_short : (n : ℕ) → length words < 41 → n ≡ short_hold s width → hold_exported n words [] m ≡ hold_exported_opening words asked width text m
   unfolding hold_exported_opening

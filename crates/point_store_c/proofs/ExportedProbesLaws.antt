@@ -34,6 +34,12 @@ module _ (words : List ℕ) (m : Memory ℕ) (p : Probes) (read_in : p ≡ probe
       ∙ ap (λ (r : Read). exported r.value (probes_recorded words after) r.numbers m') e
       ∙ ap (probes_exported_call words xs) (ensures ∙ ap (λ (t : Probes). f (point_probes t m)) read_in)
 
+-- an answer with the product after the call, read with the lent numbers
+pub probes_call_read : {a : Answer} {after : Probes} {m : Memory ℕ} {o : ProbesOutcome ℕ} → probes_outcome a (point_probes after m) ≡ o → (words xs ys : List ℕ) (n : ℕ) → read n ys ≡ exported_reading xs a → exported n (probes_recorded words after) ys m ≡ probes_exported_call words xs o
+unfolding exported_reading probes_exported_call
+probes_call_read {a = a} {after = after} {m = m} ensures words xs ys n e =
+    ap (λ (r : Read). exported r.value (probes_recorded words after) r.numbers m) e ∙ ap (probes_exported_call words xs) ensures
+
 -- within the bounds a shingle has a point
 pub shingled : (s : Shape) → shape_allowed s ≡ true → 0 < s.shingle_size
 shingled s e =

@@ -77,6 +77,12 @@ truth_as_number (Ok false) (Ok n) e xs = rw e
 truth_as_number (Ok b) (Err why) e xs = absurd e
 truth_as_number (Err why) k e xs = rw e
 
+-- an answer with the store after the call, read with the lent numbers
+pub call_read : {a : Answer} {after : Store} {m : Memory ℕ} {o : Outcome ℕ} → outcome a (point_store after m) ≡ o → (words xs ys : List ℕ) (n : ℕ) → read n ys ≡ exported_reading xs a → exported n (recorded words after) ys m ≡ exported_call words xs o
+unfolding exported_reading exported_call
+call_read {a = a} {after = after} {m = m} ensures words xs ys n e =
+    ap (λ (r : Read). exported r.value (recorded words after) r.numbers m) e ∙ ap (exported_call words xs) ensures
+
 -- inc changes counts alone
 pub inc_keeps : (p : PointStore ℕ) (i l : ℕ) → (inc_spec p i l).after.header ≡ p.header
 unfolding inc_spec incremented raised label_raised
