@@ -73,6 +73,7 @@ fn opened_out(words: &mut [u64], answer: Result<Store, Refusal>) -> u64
     }
 }
 
+#[tactic(auto, unfolding(crate::specs::ExportedStore::exported_opening))]
 #[unsafe(no_mangle)]
 pub extern "C" fn ps_open(
     words: &mut [u64],

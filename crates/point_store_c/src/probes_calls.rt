@@ -55,6 +55,7 @@ fn opened_probes_out(words: &mut [u64], answer: Result<Probes, Refusal>) -> u64
     }
 }
 
+#[tactic(auto, unfolding(crate::specs::ExportedProbes::probes_exported_opening))]
 #[unsafe(no_mangle)]
 pub extern "C" fn ps_probes_open(
     words: &mut [u64],
