@@ -1,26 +1,23 @@
 -- From what a call of the store ensures to what the exported call owes, for any of the definitions f.
-use Rattle.std.specs.Prelude.{ℕ, ◌≤◌, ◌<◌, Bool, true, false, cond, ◌≡◌, refl, Result, Ok, Err, length}
+use Rattle.std.specs.Prelude.{ℕ, Bool, true, false, cond, ◌≡◌, refl, Result, Ok, Err}
 use Rattle.std.specs.Result.{MatchResult, IsOkAnd}
 use mathlib.Core.List.{List, []}
 use Rattle.std.proofs.Common.{sym, ◌∙◌}
 use Rattle.std.proofs.Math.Path.{ap}
-use borrow.Author.Tests.{le-leb, lt-leb}
 use mir.Val.{bool_byte}
 use Rattle.terms.specs.declared.Refusal.{Refusal}
 use Rattle.interval_store_manager.specs.Calls.{Decided, go, refuse}
 use Rattle.labels.specs.Counted.{raised}
 use Rattle.labels.specs.Labels.{label_raised}
 use Rattle.store_definitions.specs.declared.Store.{Store}
-use Rattle.store_definitions.specs.declared.Shape.{Shape}
 use Rattle.store_definitions.specs.Answers.{Answer, done, refused, number_means, equality_means, Outcome, outcome, output}
 use Rattle.store_definitions.specs.Counting.{inc_test, incremented, inc_spec}
 use Rattle.store_definitions.specs.Decisions.{and_then, form_decided, carried_out}
 use Rattle.store_definitions.specs.Memory.{Memory, PointStore, point_store}
-use Rattle.store_definitions.specs.Opening.{open_spec}
 use Rattle.store_definitions.specs.Parts.{point_table, label_half, with_points, with_labels}
 use Rattle.point_store_c.specs.Records.{store_in, recorded}
 use Rattle.point_store_c.proofs.RecordLaws.{record_kept}
-use Rattle.point_store_c.specs.ExportedStore.{exported, exported_call, Read, read, exported_reading, written, exported_output, returned, opened_words, opened_as, short_record, exported_opening}
+use Rattle.point_store_c.specs.ExportedStore.{exported, exported_call, Read, read, exported_reading, written, exported_output}
 
 -- lent memory by its lists, in the order of the slices
 abbrev pub memory : (store window counts location starts ends labels slots label_counts label_starts label_ends classes slot_counts slot_starts slot_ends : List ℕ) → Memory ℕ
@@ -95,14 +92,3 @@ inc_keeps p i l = carried (and_then (form_decided p) (inc_test p i l))
     carried : (d : Decided) → (carried_out d p (outcome done (incremented p i l))).after.header ≡ p.header
     carried go = raised_keeps p.header.store_labels
     carried (refuse n) = refl
-
-module _ (words : List ℕ) (h asked : Shape) (read_in : h ≡ asked) (text : List ℕ) (m : Memory ℕ) where
-  pub open_short : (n : ℕ) → length words < 39 → n ≡ short_record h → exported n words [] m ≡ exported_opening words asked text m
-  unfolding exported_opening
-  open_short n l e = rw (lt-leb 39 (length words) l, e, read_in)
-
-  pub open_long : (a : Answer) (s : Store) (m' : Memory ℕ) (n : ℕ) (words' : List ℕ) → 39 ≤ length words → outcome a (point_store s m') ≡ open_spec 0 h text m → (n ≡ returned a) × (words' ≡ opened_words words a s) → exported n words' [] m' ≡ exported_opening words asked text m
-  unfolding exported_opening
-  open_long a s m' n words' l ensures e =
-      rw (e.0, e.1, le-leb 39 (length words) l)
-      (ap (opened_as words) (ensures ∙ ap (λ (k : Shape). open_spec 0 k text m) read_in))
