@@ -12,7 +12,7 @@ use terms::Refusal;
 const RECORD_WORDS: usize = 2;
 
 // The manager that a record holds. One too short holds none: the manager of capacity 0, which is ill-formed.
-// Kept: tried with an Option: six calls refuse in a second place and change_capacity in a third (13 before 1), in 15 lines more.
+// Kept: tried with an Option: six calls refuse in a second place and change_capacity in a third (13 before 1), in 14 lines more.
 #[tactic(auto, unfolding(crate::specs::Exported::manager_in))]
 fn manager_in(words: &[u64]) -> IntervalStoreManager
     ensures { result ≡ manager_in words.now }
