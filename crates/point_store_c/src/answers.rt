@@ -1,7 +1,7 @@
 // Answers of the store's calls as return values and lent numbers.
 ghost use Rattle.std.specs.Prelude.{◌≡◌, [], ◌∷◌};
 ghost use Rattle.placement.specs.Laying.{place_of};
-ghost use Rattle.store_definitions.specs.Answers.{added_means, adjusted_means, done_means, equality_means, number_means};
+ghost use Rattle.store_definitions.specs.Answers.{added_means, adjusted_means, done_means, number_means};
 ghost use Rattle.point_store_c.specs.ExportedStore.{joined_number, read, exported_reading};
 
 use placement::Laid;
@@ -32,19 +32,6 @@ pub fn number_out(answer: Result<usize, Refusal>, number: &mut u64) -> u64
 }
 
 #[tactic(auto, unfolding(crate::specs::ExportedStore::exported_reading))]
-pub fn equality_out(answer: Result<bool, Refusal>, equal: &mut u64) -> u64
-    ensures { read result (equal.new ∷ []) ≡ exported_reading (equal.old ∷ []) (equality_means answer) }
-{
-    match answer {
-        Err(why) => u64::from(why),
-        Ok(b) => {
-            *equal = b as u64;
-            0
-        }
-    }
-}
-
-#[tactic(auto, unfolding(crate::specs::ExportedStore::exported_reading))]
 pub fn adjusted_out(answer: Result<(), AdjustRefusal>, pairs_before: &mut u64) -> u64
     ensures { read result (pairs_before.new ∷ []) ≡ exported_reading (pairs_before.old ∷ []) (adjusted_means answer) }
 {
@@ -58,6 +45,7 @@ pub fn adjusted_out(answer: Result<(), AdjustRefusal>, pairs_before: &mut u64) -
 }
 
 // Whether the row was joined, and its place.
+#[tactic(auto, unfolding(placement::specs::Laying::place_of))]
 fn laid_out(laid: Laid, joined: &mut u64, place: &mut u64)
     ensures { (joined.new ≡ joined_number laid) × (place.new ≡ place_of laid) }
 {

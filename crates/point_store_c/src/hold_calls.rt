@@ -48,6 +48,7 @@ fn opened_hold_out(words: &mut [u64], answer: Result<Hold, Refusal>) -> u64
     }
 }
 
+#[tactic(auto, unfolding(crate::specs::ExportedHold::hold_exported_opening))]
 #[unsafe(no_mangle)]
 pub extern "C" fn ps_hold_open(
     words: &mut [u64],

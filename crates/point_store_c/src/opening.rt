@@ -12,6 +12,8 @@ use store_rows::shape_allowed;
 use terms::Refusal;
 
 // What a flag above 1 stands for: a shape of zeros, which is outside the bounds.
+// Kept: an Option would save these nine lines and cost three in each of three openings, which refuse a shape already.
+#[tactic(auto, unfolding(crate::specs::ExportedStore::shape_in))]
 pub fn shape_in(
     dimensions: usize,
     shingle_size: usize,
@@ -71,6 +73,7 @@ fn opened_out(words: &mut [u64], answer: Result<Store, Refusal>) -> u64
     }
 }
 
+#[tactic(auto, unfolding(crate::specs::ExportedStore::exported_opening))]
 #[unsafe(no_mangle)]
 pub extern "C" fn ps_open(
     words: &mut [u64],

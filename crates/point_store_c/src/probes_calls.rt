@@ -23,7 +23,7 @@ use store_rows::shape_allowed;
 use terms::Refusal;
 
 // Why a record that is too short is refused: the shape is looked at first.
-#[tactic(auto, unfolding(crate::specs::ExportedProbes::short_probes))]
+#[tactic(auto, using(crate::proofs::ExportedProbesLaws::shingled), unfolding(crate::specs::ExportedProbes::short_probes))]
 fn short_probes(shape: Shape) -> Refusal
     ensures { number result ≡ short_probes shape }
 {
@@ -55,6 +55,7 @@ fn opened_probes_out(words: &mut [u64], answer: Result<Probes, Refusal>) -> u64
     }
 }
 
+#[tactic(auto, unfolding(crate::specs::ExportedProbes::probes_exported_opening))]
 #[unsafe(no_mangle)]
 pub extern "C" fn ps_probes_open(
     words: &mut [u64],

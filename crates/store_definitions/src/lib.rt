@@ -47,6 +47,7 @@ pub struct Shape {
 #[derive(Clone, Copy)]
 pub struct Kept {
     pub index: PointIndex,
+    // Kept: with labels off NONE, which a hold's lent slice holds and dec takes: an Option would be turned into it at each.
     pub label: LabelIndex,
     pub laid: Laid,
     pub free_indices: usize,
