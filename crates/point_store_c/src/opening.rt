@@ -7,7 +7,8 @@ ghost use Rattle.terms.specs.Refusals.{number};
 ghost use Rattle.point_store_c.specs.ExportedStore.{returned, opened_words, exported, shape_in, short_record, exported_opening};
 
 use crate::record::{RECORD_WORDS, record_write};
-use store_definitions::{Shape, Store};
+use labels::LabelWriting;
+use store_definitions::{PointTables, Shape, Store};
 use store_rows::shape_allowed;
 use terms::Refusal;
 
@@ -115,14 +116,13 @@ pub extern "C" fn ps_open(
     if words.len() < RECORD_WORDS {
         return u64::from(short_record(shape));
     }
-    let result = store_rows::open(
-        shape,
-        store,
-        last_known_shingle,
+    let mut points = PointTables {
         reference_count,
         location,
         index_starts,
         index_ends,
+    };
+    let mut lent = LabelWriting {
         labels,
         label_attributes,
         label_count,
@@ -132,6 +132,13 @@ pub extern "C" fn ps_open(
         attribute_count,
         attribute_starts,
         attribute_ends,
+    };
+    let result = store_rows::open(
+        shape,
+        store,
+        last_known_shingle,
+        &mut points,
+        &mut lent,
         class_text,
     );
     opened_out(words, result)
