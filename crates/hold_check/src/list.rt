@@ -60,8 +60,8 @@ pub fn counts_single(counts: &[u16]) -> bool
     ensures { result ≡ single_counts (length counts.now) counts.now }
 {
     let mut ok = true;
-    for i in 0..counts.len() {
-        ok &= counts[i] < 2;
+    for count in counts {
+        ok &= *count < 2;
     }
     ok
 }

@@ -12,8 +12,8 @@ fn listed_below(n: u16, list: &[u16]) -> bool
     ensures { result ≡ every_below (length list.now) (λ k. nat_lt (slice_index list.now k) n) }
 {
     let mut ok = true;
-    for k in 0..list.len() {
-        ok &= list[k] < n;
+    for entry in list {
+        ok &= *entry < n;
     }
     ok
 }
