@@ -33,7 +33,11 @@ pub fn open_labels(
     let label_manager = IntervalStoreManager::new_unchecked(capacity, label_starts, label_ends);
     attributes[..capacity].fill(0);
     attribute_count[..capacity].fill(0);
-    let attribute_manager = IntervalStoreManager::new_unchecked(capacity, attribute_starts, attribute_ends);
+    let attribute_manager = IntervalStoreManager::new_unchecked(
+        capacity,
+        attribute_starts,
+        attribute_ends,
+    );
     LabelManagers {
         label_manager,
         attribute_manager,
