@@ -4,7 +4,6 @@ use mathlib.Core.List.{List}
 use Rattle.std.proofs.Common.{◌∙◌}
 use Rattle.std.proofs.Math.Path.{ap}
 use Rattle.store_definitions.specs.Answers.{Answer, refused}
-use Rattle.store_definitions.specs.Memory.{Memory}
 use Rattle.hold_definitions.specs.declared.Hold.{Hold}
 use Rattle.hold_definitions.specs.Answers.{HoldOutcome, hold_outcome}
 use Rattle.hold_definitions.specs.Memory.{HoldMemory, point_hold}

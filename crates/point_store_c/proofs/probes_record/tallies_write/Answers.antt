@@ -1,18 +1,10 @@
--- The loop keeps what the tallies passed leave.
+-- The tallies passed are all of them.
 use borrow.Author.Rules.{rules}
 use native.Mathlib.Omega.{arith}
 use mathlib.Core.Path.{◌≡◌}
 use lib.ListN.{length}
-use Rattle.class_words.specs.WordsLaws.{class_written}
 use Rattle.point_store_c.proofs.ProbesRecordLaws.{tallies_written}
 use Rattle.point_store_c.proofs.probes_record.tallies_write.Goals as goal
-
-pub loop-i-preserved : goal.loop-i-preserved
-loop-i-preserved c =
-    let l = c.loop-i in
-    let a = c.args in
-    let sized : length a.tallies ≡ 8 = search rules in
-    rw l.invariant (class_written 39 a.words.now a.tallies l.i (omega (arith, c.loop-i-test.true)))
 
 pub returns : goal.returns
 returns c =
