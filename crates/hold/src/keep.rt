@@ -30,7 +30,8 @@ fn oldest_label(store_labels: bool, held_labels: &[u16]) -> usize
     NONE
 }
 
-// A dec of the store that the hold has checked. The slices are parameters, since a dec is lent some of them to read.
+// A dec of the store that the hold has checked.
+// Kept: the slices are parameters: a dec is lent some of them to read, which the checker does not cover in a struct's fields.
 fn lower(
     s: &mut Store,
     floats: usize,

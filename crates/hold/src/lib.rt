@@ -29,7 +29,8 @@ use store_check::Figures;
 use store_definitions::{Kept, PointTables, Store};
 use terms::{FloatBits, Refusal};
 
-// An add of the store that the hold has checked. The slices are parameters, since an add is lent some of them to read.
+// An add of the store that the hold has checked.
+// Kept: the slices are parameters: an add is lent some of them to read, which the checker does not cover in a struct's fields.
 fn add_to_store(
     s: &mut Store,
     store: &mut [FloatBits],

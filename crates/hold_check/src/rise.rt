@@ -1,5 +1,6 @@
 // Along a hold's list places rise: an add lays its row behind the others, and compaction keeps their order. One pass without marks then
 // shows that the list names no index twice and no two at one place.
+// Kept: that a table has at most 1,024 entries is one comparison in each contract: a record of it would be longer.
 ghost use Rattle.std.specs.Prelude.{◌≡◌, ◌+◌, ◌-◌, ◌<◌, ◌≤◌, true, length, if◌then◌else◌, nat_le, nat_lt, slice_index};
 ghost use Rattle.terms.specs.Below.{every_below, count_below};
 ghost use Rattle.hold_check.specs.Rising.{Rises};

@@ -88,14 +88,7 @@ pub fn open_hold(
     ensures opened { hold_opened result (hold_memory (lent_writing store.new last_known_shingle.new points.new labels.new) held_indices.now held_labels.now) ≡ hold_open_spec 0 shape width class_text.now (hold_memory (lent_writing store.old last_known_shingle.old points.old labels.old) held_indices.now held_labels.now) }
 {
     open_decision(shape, width, held_indices.len(), held_labels.len())?;
-    let opened = open(
-        shape,
-        store,
-        last_known_shingle,
-        points,
-        labels,
-        class_text,
-    )?;
+    let opened = open(shape, store, last_known_shingle, points, labels, class_text)?;
     Ok(Hold {
         store: opened,
         width,

@@ -60,6 +60,7 @@ fn marked_number(marks: &[u8], capacity: usize, n: usize, total: usize) -> usize
     count_ones(&marks[..capacity])
 }
 
+// Kept: that a capacity is at most 1,024 and its marks long enough are single comparisons: a record of them would be longer.
 // Kept: here and below the number of intervals stands beside the slices, as the definitions count the first n entries of two lists.
 // Marks every index that the first n intervals hold, and tells what their sizes add up to. It stops where an interval is out of
 // bounds or the sizes pass the capacity: then two intervals share an index, and without the stop the pass would not be linear.

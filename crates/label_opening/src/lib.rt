@@ -1,6 +1,6 @@
 // Opening the label half: the first entries of each table made 0, and the managers as new makes them.
-// Kept: the slices are parameters, as the exported opening has them: a struct of `&mut` slices comes back from a call under names of the
-// checker's own.
+// Kept: the slices are parameters: what is filled is a range of each, and a range of a slice in a struct's field is not known after it
+// is written.
 #![tactic(auto)]
 
 ghost use Rattle.std.specs.Prelude.{◌≡◌};

@@ -11,6 +11,8 @@ use terms::{LabelIndex, NONE, Refusal};
 // Document 01: 'inc of a point or label count at 65,535'.
 pub const LARGEST_COUNT: u16 = 65535;
 
+// Kept: flag, capacity and counts are three parameters, here and in the readings: each caller would put a struct of them together for
+// one call.
 #[tactic(auto, unfolding(crate::specs::Decisions::in_use))]
 pub fn label_in_use(
     store_labels: bool,

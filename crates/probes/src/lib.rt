@@ -70,13 +70,9 @@ pub fn set_words(
     ensures same { SamePoints points.old points.new × SameTaking labels.old labels.new }
     ensures set { probes_outcome (added_means result) (point_probes p.new (lent_taking store.new last_known_shingle.new points.new labels.new)) ≡ set_kinds_spec words_equal 0 (point_probes p.old (lent_taking store.old last_known_shingle.old points.old labels.old)) kinds.now words.now label }
 {
-    let figures = check_probes(
-        *p,
-        store,
-        last_known_shingle,
-        points.read(labels.read()),
-    )
-    .ok_or(Refusal::IllFormed)?;
+    let figures = check_probes(*p, store, last_known_shingle, points.read(labels.read())).ok_or(
+        Refusal::IllFormed,
+    )?;
     set_decision(p.store.next_sequence_index, kinds, words.len())?;
     set_filled(
         p,

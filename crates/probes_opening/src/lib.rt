@@ -7,9 +7,9 @@ ghost use Rattle.probes_definitions.specs.WellFormed.{eight_probes};
 ghost use Rattle.labels.specs.Lent.{SameWriting};
 ghost use Rattle.store_definitions.specs.Lent.{SamePoints, lent_writing};
 
+use labels::LabelWriting;
 use probes_check::eight_probes;
 use probes_definitions::Probes;
-use labels::LabelWriting;
 use store_definitions::{PointTables, Shape};
 use store_rows::{no_record, open};
 use terms::{FloatBits, Refusal};
@@ -53,14 +53,7 @@ pub fn open_probes(
     ) {
         return Err(Refusal::Shape);
     }
-    let opened = open(
-        shape,
-        store,
-        last_known_shingle,
-        points,
-        labels,
-        class_text,
-    )?;
+    let opened = open(shape, store, last_known_shingle, points, labels, class_text)?;
     Ok(Probes {
         store: opened,
         tallies: [0u32; 8],

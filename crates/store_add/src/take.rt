@@ -54,7 +54,8 @@ fn grow_points(manager: &mut IntervalStoreManager, points: &mut PointTables, cap
     }
 }
 
-// The next index gets the place. The slices are parameters, since the manager reads one of them while it writes another.
+// The next index gets the place.
+// Kept: the slices are parameters: the manager reads one while it writes another, which the checker does not cover in a struct's fields.
 fn take_next(
     manager: &mut IntervalStoreManager,
     reference_count: &mut [u16],

@@ -9,6 +9,7 @@ use labels::LabelWriting;
 use store_definitions::Shape;
 use terms::{EMPTY_PLACE, FloatBits};
 
+// Kept: the slices are parameters, for the same reason as in `label_opening`.
 pub fn open_points(
     shape: Shape,
     store: &mut [FloatBits],

@@ -153,12 +153,7 @@ pub fn open(
     ensures same { SamePoints points.old points.new × SameWriting labels.old labels.new }
     ensures opened { outcome (opened_means result) (point_store (opened_store result) (lent_writing store.new last_known_shingle.new points.new labels.new)) ≡ open_spec 0 shape class_text.now (lent_writing store.old last_known_shingle.old points.old labels.old) }
 {
-    opening_decision(
-        shape,
-        store,
-        last_known_shingle,
-        points.read(labels.read()),
-    )?;
+    opening_decision(shape, store, last_known_shingle, points.read(labels.read()))?;
     let classes = read_classes(class_text).ok_or(Refusal::ClassText)?;
     let fresh = fresh_record(shape, classes);
     open_points(
