@@ -1,5 +1,5 @@
 -- The pairs of a list in order, from any of them on: what one pair leaves of the rest.
-use Rattle.std.specs.Prelude.{ℕ, suc, ◌+◌, ◌≤◌, ◌<◌, Bool, refl, length, get_or, drop, eqb}
+use Rattle.std.specs.Prelude.{ℕ, suc, ◌+◌, ◌≤◌, ◌<◌, Bool, length, get_or, drop, eqb}
 use Rattle.std.proofs.Common.{zero-le, add-one, add-one-le, arith, ◌∙◌, drop_of_length-le, drop-cons}
 use Rattle.std.proofs.Math.Bool.{true, false, cond}
 use mathlib.Core.List.{List, ◌∷◌}

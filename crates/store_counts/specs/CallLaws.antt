@@ -1,5 +1,5 @@
 -- What an accepted inc or dec may rely on, and what its parts come to.
-use Rattle.std.specs.Prelude.{ℕ, ◌+◌, ◌≤◌, ◌<◌, Bool, true, false, ◌≡◌, length, get_or, set, eqb, Option, Result, Ok, Err}
+use Rattle.std.specs.Prelude.{ℕ, ◌≤◌, ◌<◌, Bool, true, false, ◌≡◌, length, get_or, set, eqb, Option, Result, Ok, Err}
 use Rattle.std.proofs.Common.{arith, ◌∙◌, eq-eqb, ne_eqb}
 use Rattle.std.proofs.Math.Bool.{cond}
 use mathlib.Core.List.{List}
@@ -10,7 +10,7 @@ use Rattle.terms.specs.declared.Refusal.{Refusal}
 use Rattle.terms.specs.declared.Refusal.TheVariants.{IllFormed}
 use Rattle.terms.specs.Refusals.{number}
 use Rattle.interval_store_manager.specs.Calls.{go, decision_means}
-use Rattle.labels.specs.Counted.{Counted, counted, raised, lowered}
+use Rattle.labels.specs.Counted.{Counted, raised, lowered}
 use Rattle.labels.specs.Decisions.{inc_decided, dec_decided}
 use Rattle.labels.specs.Forms.{InUse, LiveLabel, one_more, raisable}
 use Rattle.labels.specs.Labels.{Labels, label_raised, label_lowered}

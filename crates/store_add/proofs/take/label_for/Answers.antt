@@ -4,11 +4,6 @@ use Rattle.store_add.specs.Pieces.{managers_of}
 use Rattle.store_add.proofs.TakeLaws.{label_on, label_off}
 use Rattle.store_add.proofs.take.label_for.Goals as goal
 
-pub take_label-label-requires : goal.take_label-label-requires
-take_label-label-requires c =
-    let r = c.requires c.if-not-s.false in
-    record { well = r.well; code_most = r.coded; some_free = r.some; figures = r.figures }
-
 pub returns-clause-taken : goal.returns-clause-taken
 returns-clause-taken c =
     let a = c.args in
