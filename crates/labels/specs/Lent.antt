@@ -175,16 +175,3 @@ pub record SameWriting (a b : LabelWriting) : Type 0 where
   pub attribute_count : b.attribute_count.ghost_name ≡ a.attribute_count.ghost_name
   pub attribute_starts : b.attribute_starts.ghost_name ≡ a.attribute_starts.ghost_name
   pub attribute_ends : b.attribute_ends.ghost_name ≡ a.attribute_ends.ghost_name
-
--- so the lists after a call are those that are left in what the caller lent
-pub taking_left : (a b : LabelTaking) → SameTaking a b → (labels label_attributes label_count label_starts attributes attribute_count attribute_starts : List ℕ) → labels ≡ b.labels.now → label_attributes ≡ b.label_attributes.now → label_count ≡ b.label_count.now → label_starts ≡ b.label_starts.now → attributes ≡ b.attributes.now → attribute_count ≡ b.attribute_count.now → attribute_starts ≡ b.attribute_starts.now → record { labels = labels; label_attributes = label_attributes; label_count = label_count; label_starts = label_starts; label_ends = a.label_ends.now; attributes = attributes; attribute_count = attribute_count; attribute_starts = attribute_starts; attribute_ends = a.attribute_ends.now } ≡ lists_taking b
-taking_left a b s labels label_attributes label_count label_starts attributes attribute_count attribute_starts e0 e1 e2 e3 e4 e5 e6 = rw (s.label_ends, s.attribute_ends, e0, e1, e2, e3, e4, e5, e6)
-
-pub raising_left : (a b : LabelRaising) → SameRaising a b → (label_count attribute_count : List ℕ) → label_count ≡ b.label_count.now → attribute_count ≡ b.attribute_count.now → record { labels = a.labels.now; label_attributes = a.label_attributes.now; label_count = label_count; label_starts = a.label_starts.now; label_ends = a.label_ends.now; attributes = a.attributes.now; attribute_count = attribute_count; attribute_starts = a.attribute_starts.now; attribute_ends = a.attribute_ends.now } ≡ lists_raising b
-raising_left a b s label_count attribute_count e0 e1 = rw (s.labels, s.label_attributes, s.label_starts, s.label_ends, s.attributes, s.attribute_starts, s.attribute_ends, e0, e1)
-
-pub lowering_left : (a b : LabelLowering) → SameLowering a b → (label_count label_starts label_ends attribute_count attribute_starts attribute_ends : List ℕ) → label_count ≡ b.label_count.now → label_starts ≡ b.label_starts.now → label_ends ≡ b.label_ends.now → attribute_count ≡ b.attribute_count.now → attribute_starts ≡ b.attribute_starts.now → attribute_ends ≡ b.attribute_ends.now → record { labels = a.labels.now; label_attributes = a.label_attributes.now; label_count = label_count; label_starts = label_starts; label_ends = label_ends; attributes = a.attributes.now; attribute_count = attribute_count; attribute_starts = attribute_starts; attribute_ends = attribute_ends } ≡ lists_lowering b
-lowering_left a b s label_count label_starts label_ends attribute_count attribute_starts attribute_ends e0 e1 e2 e3 e4 e5 = rw (s.labels, s.label_attributes, s.attributes, e0, e1, e2, e3, e4, e5)
-
-pub writing_left : (a b : LabelWriting) → SameWriting a b → (labels label_attributes label_count label_starts label_ends attributes attribute_count attribute_starts attribute_ends : List ℕ) → labels ≡ b.labels.now → label_attributes ≡ b.label_attributes.now → label_count ≡ b.label_count.now → label_starts ≡ b.label_starts.now → label_ends ≡ b.label_ends.now → attributes ≡ b.attributes.now → attribute_count ≡ b.attribute_count.now → attribute_starts ≡ b.attribute_starts.now → attribute_ends ≡ b.attribute_ends.now → record { labels = labels; label_attributes = label_attributes; label_count = label_count; label_starts = label_starts; label_ends = label_ends; attributes = attributes; attribute_count = attribute_count; attribute_starts = attribute_starts; attribute_ends = attribute_ends } ≡ lists_writing b
-writing_left a b s labels label_attributes label_count label_starts label_ends attributes attribute_count attribute_starts attribute_ends e0 e1 e2 e3 e4 e5 e6 e7 e8 = rw (e0, e1, e2, e3, e4, e5, e6, e7, e8)

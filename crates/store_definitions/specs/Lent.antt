@@ -130,13 +130,6 @@ pub record SameRaised (p q : PointRaising) : Type 0 where
   pub index_starts : q.index_starts.now ≡ p.index_starts.now
   pub index_ends : q.index_ends.now ≡ p.index_ends.now
 
--- so the lists after a call are those that are left in what the caller lent
-pub points_left : (p q : PointTables) → SamePoints p q → (reference_count location index_starts index_ends : List ℕ) → reference_count ≡ q.reference_count.now → location ≡ q.location.now → index_starts ≡ q.index_starts.now → index_ends ≡ q.index_ends.now → record { reference_count = reference_count; location = location; index_starts = index_starts; index_ends = index_ends } ≡ points_lent q
-points_left p q s reference_count location index_starts index_ends e0 e1 e2 e3 = rw (e0, e1, e2, e3)
-
-pub raised_left : (p q : PointRaising) → SameRaised p q → (reference_count : List ℕ) → reference_count ≡ q.reference_count.now → record { reference_count = reference_count; location = p.location.now; index_starts = p.index_starts.now; index_ends = p.index_ends.now } ≡ points_raising q
-raised_left p q s reference_count e0 = rw (e0, s.location, s.index_starts, s.index_ends)
-
 -- the tables that a form hands to a reader are its own
 pub read_as : (t : Tables) (p : PointLists) (l : LabelTables) (x : LabelLists) → ((store window : List ℕ) → lent store window t ≡ memory store window p (lists_lent l)) → lists_lent l ≡ x → (store window : List ℕ) → lent store window t ≡ memory store window p x
 read_as t p l x f e store window = f store window ∙ ap (λ (y : LabelLists). memory store window p y) e

@@ -1,5 +1,5 @@
 -- The store's add, and then the list.
-use Rattle.std.proofs.Common.{rules, ap, ◌∙◌}
+use Rattle.std.proofs.Common.{ap, ◌∙◌}
 use Rattle.std.specs.Prelude.{Ok}
 use Rattle.float_bits.specs.Words.{words_equal}
 use Rattle.labels.specs.Lent.{label_lists}
@@ -8,7 +8,7 @@ use Rattle.store_definitions.specs.Memory.{point_store}
 use Rattle.hold_definitions.specs.Lent.{hold_memory}
 use Rattle.hold_definitions.specs.Memory.{point_hold}
 use Rattle.hold_definitions.proofs.Sound.{hold_sound}
-use Rattle.hold.specs.Keeping.{added_ready, added_kept, added_waits, added_refused}
+use Rattle.hold.specs.Keeping.{added_ready, added_kept}
 use Rattle.hold.proofs.add_checked.Goals as goal
 
 pub add_to_store-requires : goal.add_to_store-requires
@@ -17,15 +17,6 @@ add_to_store-requires c =
     let h = point_hold a.h.now (hold_memory (lent_writing a.store.now a.last_known_shingle.now a.points.now a.labels.now) a.held_indices.now a.held_labels.now) in
     ((hold_sound h c.requires.0).well, c.requires.1)
 
-pub returns-in_err-added-clause-added : goal.returns-in_err-added-clause-added
-returns-in_err-added-clause-added c =
-    let a = c.args in
-    let h = point_hold a.h.now (hold_memory (lent_writing a.store.now a.last_known_shingle.now a.points.now a.labels.now) a.held_indices.now a.held_labels.now) in
-    let u = c.add_to_store.new in
-    let q = point_store u.s (memory u.store u.last_known_shingle (points_lent u.points) (label_lists u.labels u.label_attributes u.label_count u.label_starts u.label_ends u.attributes u.attribute_count u.attribute_starts u.attribute_ends)) in
-    let refused = added_refused words_equal 0 h a.point.now a.label c.add_to_store.result q c.add_to_store.ensures.added _ c.in_err-added.was in
-    search (rules, refused)
-
 pub keep_point-requires : goal.keep_point-requires
 keep_point-requires c =
     let a = c.args in
@@ -33,14 +24,6 @@ keep_point-requires c =
     let u = c.add_to_store.new in
     let q = point_store u.s (memory u.store u.last_known_shingle (points_lent u.points) (label_lists u.labels u.label_attributes u.label_count u.label_starts u.label_ends u.attributes u.attribute_count u.attribute_starts u.attribute_ends)) in
     added_ready words_equal 0 h a.point.now a.label c.add_to_store.result q c.add_to_store.ensures.added c.requires.0 _ (c.in_ok-added.was ∙ ap Ok c.in-Some.is)
-
-pub returns-in_default-clause-added : goal.returns-in_default-clause-added
-returns-in_default-clause-added c =
-    let a = c.args in
-    let h = point_hold a.h.now (hold_memory (lent_writing a.store.now a.last_known_shingle.now a.points.now a.labels.now) a.held_indices.now a.held_labels.now) in
-    let u = c.add_to_store.new in
-    let q = point_store u.s (memory u.store u.last_known_shingle (points_lent u.points) (label_lists u.labels u.label_attributes u.label_count u.label_starts u.label_ends u.attributes u.attribute_count u.attribute_starts u.attribute_ends)) in
-    added_waits words_equal 0 h a.point.now a.label c.add_to_store.result q c.add_to_store.ensures.added (c.in_ok-added.was ∙ ap Ok c.in_default.is)
 
 pub returns-clause-added : goal.returns-clause-added
 returns-clause-added c =
