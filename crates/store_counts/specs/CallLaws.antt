@@ -1,5 +1,5 @@
 -- What an accepted inc or dec may rely on, and what its parts come to.
-use Rattle.std.specs.Prelude.{ℕ, ◌≤◌, ◌<◌, Bool, true, false, ◌≡◌, length, get_or, set, eqb, Option, Result, Ok, Err}
+use Rattle.std.specs.Prelude.{ℕ, ◌+◌, ◌≤◌, ◌<◌, Bool, true, false, ◌≡◌, length, get_or, set, eqb, Option, Result, Ok, Err}
 use Rattle.std.proofs.Common.{arith, ◌∙◌, eq-eqb, ne_eqb}
 use Rattle.std.proofs.Math.Bool.{cond}
 use mathlib.Core.List.{List}
@@ -10,7 +10,7 @@ use Rattle.terms.specs.declared.Refusal.{Refusal}
 use Rattle.terms.specs.declared.Refusal.TheVariants.{IllFormed}
 use Rattle.terms.specs.Refusals.{number}
 use Rattle.interval_store_manager.specs.Calls.{go, decision_means}
-use Rattle.labels.specs.Counted.{Counted, raised, lowered}
+use Rattle.labels.specs.Counted.{Counted, counted, raised, lowered}
 use Rattle.labels.specs.Decisions.{inc_decided, dec_decided}
 use Rattle.labels.specs.Forms.{InUse, LiveLabel, one_more, raisable}
 use Rattle.labels.specs.Labels.{Labels, label_raised, label_lowered}
@@ -59,22 +59,30 @@ module _ {E : Type 0} (p : PointStore E) where
           let a = both_go (touch_decided p i) _ t in
           (a.0, both_go (inc_decided p.header.store_labels p.header.capacity p.memory.label_count l) _ a.1)
 
+      pub inc_within : i < length counts
+      inc_within = within i (touch_go p i inc_parts.0).0
+
+      pub inc_room : get_or counts i 0 < 65536 → get_or counts i 0 < 65535
+      inc_room h = less (get_or counts i 0) (omega arith) (eqb-false (get_or counts i 0) 65535 (not_refused _ 7 inc_parts.1.1))
+
+      pub inc_label_ready : p.header.store_labels ≡ true → LiveLabel p.header.classes p.header.capacity (label_half p) l × (get_or p.memory.label_count l 0 < 65535)
+      inc_label_ready on =
+          let w = (sound p f).labels on in
+          let u = inc_label_go p.header.capacity p.memory.label_count l (rw on at inc_parts.1.0) in (
+            record {
+              well = labels_sound_make p.header.classes p.header.capacity (label_half p) w;
+              below = u.0.below;
+              live = u.0.counted;
+            },
+            less (get_or p.memory.label_count l 0) (w.count_most l u.0.below) u.1,
+          )
+
       pub inc_raisable : Raisable p.header.store_labels counts p.memory.label_attributes p.memory.label_count p.memory.attribute_count i l
       inc_raisable =
-          let u = touch_go p i inc_parts.0 in
           record {
-            point_lent = within i u.0;
-            point_room = less (get_or counts i 0) ((sound p f).counts_most i u.0) (eqb-false (get_or counts i 0) 65535 (not_refused _ 7 inc_parts.1.1));
-            labels = λ on.
-                let w = (sound p f).labels on in
-                let u = inc_label_go p.header.capacity p.memory.label_count l (rw on at inc_parts.1.0) in
-                raisable p.header.classes p.header.capacity (label_half p) l
-                (record {
-                  well = labels_sound_make p.header.classes p.header.capacity (label_half p) w;
-                  below = u.0.below;
-                  live = u.0.counted;
-                })
-                (less (get_or p.memory.label_count l 0) (w.count_most l u.0.below) u.1);
+            point_lent = inc_within;
+            point_room = inc_room (omega (arith, (sound p f).counts_most i (touch_go p i inc_parts.0).0));
+            labels = λ on. raisable p.header.classes p.header.capacity (label_half p) l (inc_label_ready on).0 (inc_label_ready on).1;
           }
 
     module _ (i l : ℕ) (t : dec_test p i l ≡ go) where
@@ -98,6 +106,20 @@ module _ {E : Type 0} (p : PointStore E) where
           }
 
   module _ (i l : ℕ) where
+    abbrev raised_point : Counted
+    raised_point = counted p.header.index_manager (set counts i (get_or counts i 0 + 1)) p.memory.index_starts p.memory.index_ends
+
+    pub inc_off : p.header.store_labels ≡ false → with_points raised_point p.memory.location p ≡ incremented p i l
+    unfolding incremented raised
+    inc_off e = rw e
+
+    pub inc_on : p.header.store_labels ≡ true → (h : Labels) → h ≡ label_raised (label_half p) l → with_labels h (with_points raised_point p.memory.location p) ≡ incremented p i l
+    unfolding incremented raised
+    inc_on e h g =
+        let q = with_points raised_point p.memory.location p in
+        ap (λ (x : Labels). with_labels x q) g ∙ sym (ap (λ (b : Bool). cond b (with_labels (label_raised (label_half p) l) q) q) e)
+
+    -- by what is left in the three lists
     abbrev labels_more : List ℕ
     labels_more = one_more p.memory.label_count l
 
@@ -105,15 +127,12 @@ module _ {E : Type 0} (p : PointStore E) where
     slots_more = one_more p.memory.attribute_count (get_or p.memory.label_attributes l 0)
 
     pub inc_done : (points labels slots : List ℕ) → points ≡ one_more counts i → labels ≡ cond p.header.store_labels labels_more p.memory.label_count → slots ≡ cond p.header.store_labels slots_more p.memory.attribute_count → with_counts points labels slots p ≡ incremented p i l
-    unfolding incremented raised label_raised
-    inc_done points labels slots a b d = rw (a, b, d) (split p.header.store_labels)
+    unfolding label_raised raised
+    inc_done points labels slots a b d = rw (a, b, d) (split p.header.store_labels refl)
       where
-        q : PointStore E
-        q = with_points (raised (point_table p) i) p.memory.location p
-
-        split : (on : Bool) → with_counts (one_more counts i) (cond on labels_more p.memory.label_count) (cond on slots_more p.memory.attribute_count) p ≡ cond on (with_labels (label_raised (label_half p) l) q) q
-        split true = refl
-        split false = refl
+        split : (on : Bool) → p.header.store_labels ≡ on → with_counts (one_more counts i) (cond on labels_more p.memory.label_count) (cond on slots_more p.memory.attribute_count) p ≡ incremented p i l
+        split true e = inc_on e (label_raised (label_half p) l) refl
+        split false e = inc_off e
 
     module _ (t : Counted) (a : t ≡ lowered (point_table p) i) (location : List ℕ) (b : location ≡ emptied counts p.memory.location i) where
       pub dec_off : p.header.store_labels ≡ false → with_points t location p ≡ decremented p i l
