@@ -4,8 +4,8 @@ use Rattle.std.specs.Prelude.{ℕ, List, ◌∷◌, ◌≡◌, Option, Result, O
 use denote.Triple.Both.{Both}
 use Rattle.terms.specs.declared.Refusal.{Refusal}
 use Rattle.float_bits.specs.Words.{words_equal}
-use Rattle.labels.specs.declared.tables.LabelWriting.{LabelWriting}
-use Rattle.store_definitions.specs.declared.tables.PointTables.{PointTables}
+use Rattle.labels.specs.declared.to_write.LabelWriting.{LabelWriting}
+use Rattle.store_definitions.specs.declared.points.PointTables.{PointTables}
 use Rattle.store_definitions.specs.declared.Kept.{Kept}
 use Rattle.store_definitions.specs.declared.Shape.{Shape}
 use Rattle.store_definitions.specs.Answers.{Answer, added_means}

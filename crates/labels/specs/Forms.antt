@@ -1,16 +1,16 @@
 -- The label half as the contracts see it: the managers and the nine lists as one record, and what take, inc and dec and the
 -- functions under them ask of it.
 use Rattle.std.specs.Prelude.{ℕ, ◌+◌, ◌≤◌, ◌<◌, List, true, false, ◌≡◌, length, get_or, set}
-use Rattle.std.proofs.Common.{arith}
+use Rattle.std.proofs.Common.{arith, refl}
 use Rattle.terms.specs.declared.LabelIndex.{LabelIndex}
 use Rattle.interval_store_manager.specs.declared.IntervalStoreManager.{IntervalStoreManager}
 use Rattle.interval_store_manager.specs.Intervals.{is_free}
 use Rattle.interval_store_manager.specs.WellFormed.{well_formed}
 use Rattle.labels.specs.declared.LabelManagers.{LabelManagers}
 use Rattle.labels.specs.declared.LabelsFree.{LabelsFree}
-use Rattle.labels.specs.Counted.{Counted, counted, count_at, free_indices}
+use Rattle.labels.specs.Counted.{Counted, counted, count_at, free_indices, raised}
 use Rattle.labels.specs.CountedLaws.{WellCounted}
-use Rattle.labels.specs.Labels.{Labels, slot_at, label_count_at, SlotTaken, LabelTaken, labels_well}
+use Rattle.labels.specs.Labels.{Labels, slot_at, label_count_at, label_raised, SlotTaken, LabelTaken, labels_well}
 use Rattle.labels.specs.Sound.{sound}
 use Rattle.labels.specs.SlotLaws.{slot_count_most}
 
@@ -94,3 +94,15 @@ raisable classes c l i r h =
       slot_lent = omega (arith, w.slot_table.lent, below);
       slot_room = omega (arith, slot_count_most classes c l w (slot_at l i) below);
     }
+
+-- counted so, they are the label half after an inc
+pub label_raised_is : (l : Labels) (i : ℕ) (counts slots : List ℕ) → counts ≡ one_more l.label_table.counts i → slots ≡ one_more l.attribute_table.counts (slot_at l i)
+    → record {
+      labels = l.labels;
+      label_attributes = l.label_attributes;
+      label_table = counted l.label_table.manager counts l.label_table.starts l.label_table.ends;
+      attributes = l.attributes;
+      attribute_table = counted l.attribute_table.manager slots l.attribute_table.starts l.attribute_table.ends;
+    } ≡ label_raised l i
+unfolding label_raised raised
+label_raised_is l i counts slots a b = rw (a, b) refl

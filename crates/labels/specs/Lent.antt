@@ -3,10 +3,10 @@
 use Rattle.std.specs.Prelude.{ℕ, List, ◌≡◌}
 use Rattle.labels.specs.declared.LabelManagers.{LabelManagers}
 use Rattle.labels.specs.declared.tables.LabelTables.{LabelTables}
-use Rattle.labels.specs.declared.tables.LabelTaking.{LabelTaking}
-use Rattle.labels.specs.declared.tables.LabelRaising.{LabelRaising}
-use Rattle.labels.specs.declared.tables.LabelLowering.{LabelLowering}
-use Rattle.labels.specs.declared.tables.LabelWriting.{LabelWriting}
+use Rattle.labels.specs.declared.to_take.LabelTaking.{LabelTaking}
+use Rattle.labels.specs.declared.to_raise.LabelRaising.{LabelRaising}
+use Rattle.labels.specs.declared.to_lower.LabelLowering.{LabelLowering}
+use Rattle.labels.specs.declared.to_write.LabelWriting.{LabelWriting}
 use Rattle.labels.specs.Labels.{Labels}
 use Rattle.labels.specs.Forms.{held}
 

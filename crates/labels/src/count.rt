@@ -8,7 +8,7 @@ ghost use Rattle.labels.specs.Forms.{LabelRaisable, LiveLabel, Releasable, one_m
 ghost use Rattle.labels.specs.Lent.{SameLowering, labels_lowering};
 
 use crate::LabelManagers;
-use crate::tables::LabelLowering;
+use crate::to_lower::LabelLowering;
 use interval_store_manager::IntervalStoreManager;
 use terms::LabelIndex;
 

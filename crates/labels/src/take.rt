@@ -7,7 +7,7 @@ ghost use Rattle.labels.specs.Forms.{SlotReady, LabelReady, slot_outcome, label_
 ghost use Rattle.labels.specs.Lent.{labels_taking, SameTaking};
 
 use crate::classes::class_of;
-use crate::tables::LabelTaking;
+use crate::to_take::LabelTaking;
 use crate::{LabelManagers, LabelsFree};
 use interval_store_manager::IntervalStoreManager;
 use terms::LabelIndex;

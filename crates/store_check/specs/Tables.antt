@@ -1,10 +1,10 @@
 -- The lent tables as the contracts see them. Of the rows' elements only the lengths are known: they stand as lists of units.
 use Rattle.std.specs.Prelude.{ℕ, List, replicate}
 use denote.Triple.Both.{Both}
-use Rattle.labels.specs.declared.tables.LabelRaising.{LabelRaising}
-use Rattle.labels.specs.declared.tables.LabelLowering.{LabelLowering}
-use Rattle.store_definitions.specs.declared.tables.PointRaising.{PointRaising}
-use Rattle.store_definitions.specs.declared.tables.PointTables.{PointTables}
+use Rattle.labels.specs.declared.to_raise.LabelRaising.{LabelRaising}
+use Rattle.labels.specs.declared.to_lower.LabelLowering.{LabelLowering}
+use Rattle.store_definitions.specs.declared.raising.PointRaising.{PointRaising}
+use Rattle.store_definitions.specs.declared.points.PointTables.{PointTables}
 use Rattle.store_definitions.specs.declared.tables.Tables.{Tables}
 use Rattle.labels.specs.Lent.{LabelLists, lists_raising, lists_lowering}
 use Rattle.store_definitions.specs.Lent.{PointLists, memory, points_lent, points_raising}

@@ -6,14 +6,14 @@ use denote.Triple.Both.{Both}
 use Rattle.interval_store_manager.specs.declared.IntervalStoreManager.{IntervalStoreManager}
 use Rattle.labels.specs.Counted.{Counted, counted}
 use Rattle.labels.specs.declared.tables.LabelTables.{LabelTables}
-use Rattle.labels.specs.declared.tables.LabelTaking.{LabelTaking}
-use Rattle.labels.specs.declared.tables.LabelRaising.{LabelRaising}
-use Rattle.labels.specs.declared.tables.LabelLowering.{LabelLowering}
-use Rattle.labels.specs.declared.tables.LabelWriting.{LabelWriting}
+use Rattle.labels.specs.declared.to_take.LabelTaking.{LabelTaking}
+use Rattle.labels.specs.declared.to_raise.LabelRaising.{LabelRaising}
+use Rattle.labels.specs.declared.to_lower.LabelLowering.{LabelLowering}
+use Rattle.labels.specs.declared.to_write.LabelWriting.{LabelWriting}
 use Rattle.labels.specs.Lent.{LabelLists, lists_lent, lists_taking, lists_raising, lists_lowering, lists_writing}
 use Rattle.store_definitions.specs.declared.tables.Tables.{Tables}
-use Rattle.store_definitions.specs.declared.tables.PointRaising.{PointRaising}
-use Rattle.store_definitions.specs.declared.tables.PointTables.{PointTables}
+use Rattle.store_definitions.specs.declared.raising.PointRaising.{PointRaising}
+use Rattle.store_definitions.specs.declared.points.PointTables.{PointTables}
 use Rattle.store_definitions.specs.Memory.{Memory}
 
 abbrev pub Ref : Type 0

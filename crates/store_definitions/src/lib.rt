@@ -2,11 +2,15 @@
 // stands in the crates above, and its contracts cite these definitions.
 #![tactic(auto)]
 
+mod points;
+mod raising;
 mod tables;
 
 use interval_store_manager::IntervalStoreManager;
 use placement::Laid;
-pub use tables::{PointRaising, PointTables, Tables};
+pub use points::PointTables;
+pub use raising::PointRaising;
+pub use tables::Tables;
 use terms::{LabelIndex, PointIndex, Refusal};
 
 // The record of a store, under the Rust's names. What the Rust keeps in vectors is lent beside it.

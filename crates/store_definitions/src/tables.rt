@@ -1,7 +1,10 @@
-// The lent tables of a store: all that is lent but the floats and the window, which only what moves elements takes.
+// The lent tables of a store: all that is lent but the floats and the window, which only what moves elements takes. A call that writes gets
+// the points' half as `PointTables` or `PointRaising`, and the label half beside it, by what it writes there.
+// Kept: floats, window, points and labels are parameters of their own: a struct that holds a second one is not known after a call, and a
+// flat one would be a form for each call besides. Floats, window and tables of a reading would be put together for one call, and taken
+// apart by the check, which sees of floats and window how many there are.
 ghost use Rattle.std.specs.Prelude.{ℕ, List, ◌≡◌};
-ghost use Rattle.labels.specs.Lent.{lists_lent};
-ghost use Rattle.store_definitions.specs.Lent.{held, lent, memory, points_lent, points_raising};
+ghost use Rattle.store_definitions.specs.Lent.{held, lent};
 
 use labels::LabelTables;
 
@@ -50,53 +53,6 @@ impl<'a> Tables<'a> {
             location,
             index_starts,
             index_ends,
-            label_tables,
-        }
-    }
-}
-
-// The points' half, as a call that writes there gets it. The label half stands beside it, by what the call writes of it.
-// Kept: two forms, since the C interface lends inc as `&mut` only the counts.
-#[derive(Drop)]
-pub struct PointTables<'a> {
-    pub reference_count: &'a mut [u16],
-    pub location: &'a mut [u16],
-    pub index_starts: &'a mut [u16],
-    pub index_ends: &'a mut [u16],
-}
-
-impl<'a> PointTables<'a> {
-    pub fn read<'b>(&'b self, label_tables: LabelTables<'b>) -> Tables<'b>
-        ensures { (store window : List ℕ) → lent store window result ≡ memory store window (points_lent self.now) (lists_lent label_tables.entry) }
-    {
-        Tables {
-            reference_count: self.reference_count,
-            location: self.location,
-            index_starts: self.index_starts,
-            index_ends: self.index_ends,
-            label_tables,
-        }
-    }
-}
-
-// For one count more.
-#[derive(Drop)]
-pub struct PointRaising<'a> {
-    pub reference_count: &'a mut [u16],
-    pub location: &'a [u16],
-    pub index_starts: &'a [u16],
-    pub index_ends: &'a [u16],
-}
-
-impl<'a> PointRaising<'a> {
-    pub fn read<'b>(&'b self, label_tables: LabelTables<'b>) -> Tables<'b>
-        ensures { (store window : List ℕ) → lent store window result ≡ memory store window (points_raising self.now) (lists_lent label_tables.entry) }
-    {
-        Tables {
-            reference_count: self.reference_count,
-            location: self.location,
-            index_starts: self.index_starts,
-            index_ends: self.index_ends,
             label_tables,
         }
     }
