@@ -7,8 +7,8 @@ ghost use Rattle.store_definitions.specs.Memory.{point_store};
 ghost use Rattle.store_counts.specs.Tables.{counts_alone};
 
 use labels::{LARGEST_COUNT, entry};
-use store_definitions::Store;
-use terms::{LabelIndex, PointIndex, Refusal};
+use store_definitions::{Change, Store};
+use terms::{PointIndex, Refusal};
 
 #[tactic(auto, using(crate::specs::TestLaws::in_use_below, crate::specs::TestLaws::in_use_beyond))]
 pub fn point_in_use(s: Store, reference_count: &[u16], index: PointIndex) -> bool
@@ -22,16 +22,15 @@ pub fn inc_test(
     s: Store,
     reference_count: &[u16],
     label_count: &[u16],
-    index: PointIndex,
-    label: LabelIndex,
+    change: Change,
 ) -> Result<(), Refusal>
-    ensures { decision_means result ≡ inc_test (point_store s (counts_alone reference_count.now label_count.now)) index.0 label.0 }
+    ensures { decision_means result ≡ inc_test (point_store s (counts_alone reference_count.now label_count.now)) change.index.0 change.label.0 }
 {
-    if !point_in_use(s, reference_count, index) {
+    if !point_in_use(s, reference_count, change.index) {
         return Err(Refusal::PointNotInUse);
     }
-    labels::inc_decision(s.store_labels, s.capacity, label_count, label)?;
-    room_to_count(reference_count, index)
+    labels::inc_decision(s.store_labels, s.capacity, label_count, change.label)?;
+    room_to_count(reference_count, change.index)
 }
 
 // Whether a point's count may rise.
@@ -49,13 +48,12 @@ pub fn dec_test(
     s: Store,
     reference_count: &[u16],
     label_count: &[u16],
-    index: PointIndex,
-    label: LabelIndex,
+    change: Change,
 ) -> Result<(), Refusal>
-    ensures { decision_means result ≡ dec_test (point_store s (counts_alone reference_count.now label_count.now)) index.0 label.0 }
+    ensures { decision_means result ≡ dec_test (point_store s (counts_alone reference_count.now label_count.now)) change.index.0 change.label.0 }
 {
-    if !point_in_use(s, reference_count, index) {
+    if !point_in_use(s, reference_count, change.index) {
         return Err(Refusal::PointNotInUse);
     }
-    labels::dec_decision(s.store_labels, s.capacity, label_count, label)
+    labels::dec_decision(s.store_labels, s.capacity, label_count, change.label)
 }

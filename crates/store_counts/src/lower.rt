@@ -1,6 +1,6 @@
 // One count less of a point and, with labels on, of its label and the label's slot.
 ghost use Rattle.std.specs.Prelude.{true, ◌≡◌, ◌<◌, length};
-ghost use Rattle.interval_store_manager.specs.Calls.{decision_means, go};
+ghost use Rattle.interval_store_manager.specs.Calls.{go};
 ghost use Rattle.labels.specs.Counted.{lowered};
 ghost use Rattle.labels.specs.Forms.{InUse};
 ghost use Rattle.store_definitions.specs.Answers.{outcome, done_means};
@@ -10,14 +10,14 @@ ghost use Rattle.store_definitions.specs.Lent.{SamePoints, lent_lowering, point_
 ghost use Rattle.store_definitions.specs.Memory.{point_store};
 ghost use Rattle.store_definitions.specs.WellFormed.{well_formed};
 ghost use Rattle.store_check.specs.Tables.{tables_lowering};
-ghost use Rattle.store_counts.specs.Tables.{counts_alone, emptied};
+ghost use Rattle.store_counts.specs.Tables.{emptied};
 
 use crate::decide::dec_test;
 use interval_store_manager::IntervalStoreManager;
 use labels::{LabelLowering, LabelManagers, dec_label};
 use store_check::check;
-use store_definitions::{PointTables, Store};
-use terms::{EMPTY_PLACE, FloatBits, LabelIndex, PointIndex, Refusal};
+use store_definitions::{Change, PointTables, Store};
+use terms::{EMPTY_PLACE, FloatBits, PointIndex, Refusal};
 
 // One count less of a point; at 0 its index is released and its place emptied.
 fn lower_point(manager: &mut IntervalStoreManager, points: &mut PointTables, index: PointIndex)
@@ -42,36 +42,22 @@ pub fn dec_accepted(
     window: usize,
     points: &mut PointTables,
     labels: &mut LabelLowering,
-    index: PointIndex,
-    label: LabelIndex,
+    change: Change,
 )
-    requires { (well_formed (point_store s.old (tables_lowering floats window points.old labels.old)) ≡ true) × (dec_test (point_store s.old (tables_lowering floats window points.old labels.old)) index.0 label.0 ≡ go) }
+    requires { (well_formed (point_store s.old (tables_lowering floats window points.old labels.old)) ≡ true) × (dec_test (point_store s.old (tables_lowering floats window points.old labels.old)) change.index.0 change.label.0 ≡ go) }
     ensures same { SamePoints points.old points.new × SameLowering labels.old labels.new }
-    ensures lowered { point_store s.new (tables_lowering floats window points.new labels.new) ≡ decremented (point_store s.old (tables_lowering floats window points.old labels.old)) index.0 label.0 }
+    ensures lowered { point_store s.new (tables_lowering floats window points.new labels.new) ≡ decremented (point_store s.old (tables_lowering floats window points.old labels.old)) change.index.0 change.label.0 }
 {
-    lower_point(&mut s.index_manager, points, index);
+    lower_point(&mut s.index_manager, points, change.index);
     if s.store_labels {
         let mut managers = LabelManagers {
             label_manager: s.label_manager,
             attribute_manager: s.attribute_manager,
         };
-        dec_label(&s.classes, s.capacity, &mut managers, labels, label);
+        dec_label(&s.classes, s.capacity, &mut managers, labels, change.label);
         s.label_manager = managers.label_manager;
         s.attribute_manager = managers.attribute_manager;
     }
-}
-
-// What is decided of the call, over the tables as they were lent.
-fn may_dec(
-    s: Store,
-    points: &PointTables,
-    labels: &LabelLowering,
-    index: PointIndex,
-    label: LabelIndex,
-) -> Result<(), Refusal>
-    ensures { decision_means result ≡ dec_test (point_store s (counts_alone points.now.reference_count.now labels.now.label_count.now)) index.0 label.0 }
-{
-    dec_test(s, points.reference_count, labels.label_count, index, label)
 }
 
 // The same for callers that have checked the store.
@@ -81,15 +67,16 @@ pub fn dec_unchecked(
     window: usize,
     points: &mut PointTables,
     labels: &mut LabelLowering,
-    index: PointIndex,
-    label: LabelIndex,
+    change: Change,
 ) -> Result<(), Refusal>
     requires { well_formed (point_store s.old (tables_lowering floats window points.old labels.old)) ≡ true }
     ensures same { SamePoints points.old points.new × SameLowering labels.old labels.new }
-    ensures dec { outcome (done_means result) (point_store s.new (tables_lowering floats window points.new labels.new)) ≡ dec_spec (point_store s.old (tables_lowering floats window points.old labels.old)) index.0 label.0 }
+    ensures dec { outcome (done_means result) (point_store s.new (tables_lowering floats window points.new labels.new)) ≡ dec_spec (point_store s.old (tables_lowering floats window points.old labels.old)) change.index.0 change.label.0 }
 {
-    may_dec(*s, points, labels, index, label)?;
-    dec_accepted(s, floats, window, points, labels, index, label);
+    let counts = &mut *points.reference_count;
+    let label_counts = &mut *labels.label_count;
+    dec_test(*s, counts, label_counts, change)?;
+    dec_accepted(s, floats, window, points, labels, change);
     Ok(())
 }
 
@@ -99,11 +86,10 @@ pub fn dec(
     last_known_shingle: &[FloatBits],
     points: &mut PointTables,
     labels: &mut LabelLowering,
-    index: PointIndex,
-    label: LabelIndex,
+    change: Change,
 ) -> Result<(), Refusal>
     ensures same { SamePoints points.old points.new × SameLowering labels.old labels.new }
-    ensures dec { outcome (done_means result) (point_store s.new (lent_lowering store.now last_known_shingle.now points.new labels.new)) ≡ dec_spec (point_store s.old (lent_lowering store.now last_known_shingle.now points.old labels.old)) index.0 label.0 }
+    ensures dec { outcome (done_means result) (point_store s.new (lent_lowering store.now last_known_shingle.now points.new labels.new)) ≡ dec_spec (point_store s.old (lent_lowering store.now last_known_shingle.now points.old labels.old)) change.index.0 change.label.0 }
 {
     check(
         *s,
@@ -118,7 +104,6 @@ pub fn dec(
         last_known_shingle.len(),
         points,
         labels,
-        index,
-        label,
+        change,
     )
 }

@@ -1,6 +1,5 @@
 // One count more of a point and, with labels on, of its label and the label's slot.
 ghost use Rattle.std.specs.Prelude.{true, cond, ◌≡◌, get_or};
-ghost use Rattle.interval_store_manager.specs.Calls.{decision_means};
 ghost use Rattle.store_definitions.specs.Answers.{outcome, done_means};
 ghost use Rattle.store_definitions.specs.Counting.{inc_test, inc_spec};
 ghost use Rattle.labels.specs.Forms.{one_more};
@@ -9,13 +8,13 @@ ghost use Rattle.store_definitions.specs.Lent.{SameRaised, lent_raising};
 ghost use Rattle.store_definitions.specs.Memory.{point_store};
 ghost use Rattle.store_definitions.specs.WellFormed.{well_formed};
 ghost use Rattle.store_check.specs.Tables.{tables_raising};
-ghost use Rattle.store_counts.specs.Tables.{Raisable, counts_alone};
+ghost use Rattle.store_counts.specs.Tables.{Raisable};
 
 use crate::decide::inc_test;
 use labels::{LabelRaising, inc_label};
 use store_check::check;
-use store_definitions::{PointRaising, Store};
-use terms::{FloatBits, LabelIndex, PointIndex, Refusal};
+use store_definitions::{Change, PointRaising, Store};
+use terms::{FloatBits, Refusal};
 
 // One count more, for callers that have checked the store and the call: of all that is lent, what it reads and writes.
 pub fn inc_accepted(
@@ -24,31 +23,17 @@ pub fn inc_accepted(
     label_attributes: &[u16],
     label_count: &mut [u16],
     attribute_count: &mut [u32],
-    index: PointIndex,
-    label: LabelIndex,
+    change: Change,
 )
-    requires { Raisable store_labels reference_count.old label_attributes.now label_count.old attribute_count.old index.0 label.0 }
-    ensures points { reference_count.new ≡ one_more reference_count.old index.0 }
-    ensures labels { label_count.new ≡ cond store_labels (one_more label_count.old label.0) label_count.old }
-    ensures slots { attribute_count.new ≡ cond store_labels (one_more attribute_count.old (get_or label_attributes.now label.0 0)) attribute_count.old }
+    requires { Raisable store_labels reference_count.old label_attributes.now label_count.old attribute_count.old change.index.0 change.label.0 }
+    ensures points { reference_count.new ≡ one_more reference_count.old change.index.0 }
+    ensures labels { label_count.new ≡ cond store_labels (one_more label_count.old change.label.0) label_count.old }
+    ensures slots { attribute_count.new ≡ cond store_labels (one_more attribute_count.old (get_or label_attributes.now change.label.0 0)) attribute_count.old }
 {
-    reference_count[index.0] += 1;
+    reference_count[change.index.0] += 1;
     if store_labels {
-        inc_label(label_attributes, label_count, attribute_count, label);
+        inc_label(label_attributes, label_count, attribute_count, change.label);
     }
-}
-
-// What is decided of the call, over the tables as they were lent.
-fn may_inc(
-    s: Store,
-    points: &PointRaising,
-    labels: &LabelRaising,
-    index: PointIndex,
-    label: LabelIndex,
-) -> Result<(), Refusal>
-    ensures { decision_means result ≡ inc_test (point_store s (counts_alone points.now.reference_count.now labels.now.label_count.now)) index.0 label.0 }
-{
-    inc_test(s, points.reference_count, labels.label_count, index, label)
 }
 
 // The same for callers that have checked the store.
@@ -58,22 +43,22 @@ pub fn inc_unchecked(
     window: usize,
     points: &mut PointRaising,
     labels: &mut LabelRaising,
-    index: PointIndex,
-    label: LabelIndex,
+    change: Change,
 ) -> Result<(), Refusal>
     requires { well_formed (point_store s (tables_raising floats window points.old labels.old)) ≡ true }
     ensures same { SameRaised points.old points.new × SameRaising labels.old labels.new }
-    ensures inc { outcome (done_means result) (point_store s (tables_raising floats window points.new labels.new)) ≡ inc_spec (point_store s (tables_raising floats window points.old labels.old)) index.0 label.0 }
+    ensures inc { outcome (done_means result) (point_store s (tables_raising floats window points.new labels.new)) ≡ inc_spec (point_store s (tables_raising floats window points.old labels.old)) change.index.0 change.label.0 }
 {
-    may_inc(s, points, labels, index, label)?;
+    let counts = &mut *points.reference_count;
+    let label_counts = &mut *labels.label_count;
+    inc_test(s, counts, label_counts, change)?;
     inc_accepted(
         s.store_labels,
         points.reference_count,
         labels.label_attributes,
         labels.label_count,
         labels.attribute_count,
-        index,
-        label,
+        change,
     );
     Ok(())
 }
@@ -84,11 +69,10 @@ pub fn inc(
     last_known_shingle: &[FloatBits],
     points: &mut PointRaising,
     labels: &mut LabelRaising,
-    index: PointIndex,
-    label: LabelIndex,
+    change: Change,
 ) -> Result<(), Refusal>
     ensures same { SameRaised points.old points.new × SameRaising labels.old labels.new }
-    ensures inc { outcome (done_means result) (point_store s (lent_raising store.now last_known_shingle.now points.new labels.new)) ≡ inc_spec (point_store s (lent_raising store.now last_known_shingle.now points.old labels.old)) index.0 label.0 }
+    ensures inc { outcome (done_means result) (point_store s (lent_raising store.now last_known_shingle.now points.new labels.new)) ≡ inc_spec (point_store s (lent_raising store.now last_known_shingle.now points.old labels.old)) change.index.0 change.label.0 }
 {
     check(
         s,
@@ -103,7 +87,6 @@ pub fn inc(
         last_known_shingle.len(),
         points,
         labels,
-        index,
-        label,
+        change,
     )
 }

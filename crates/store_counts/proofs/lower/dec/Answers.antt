@@ -21,11 +21,11 @@ returns-in_err-ok_or-clause-dec c =
     let a = c.args in
     let m = lent_lowering a.store.now a.last_known_shingle.now a.points.now a.labels.now in
     let ill = read_failed a.s.now a.store.now a.last_known_shingle.now (points_lent a.points.now) (lists_lowering a.labels.now) c.read.result c.read.ensures c.read-2.result c.read-2.ensures _ _ c.check.ensures _ (sym c.ok_or.ensures.value ∙ c.in_err-ok_or.was) in
-    let refused = dec_ill (point_store a.s.now m) ill.0 a.index.0 a.label.0 in
+    let refused = dec_ill (point_store a.s.now m) ill.0 a.change.index.0 a.change.label.0 in
     search (rules, refused, ill.1)
 
 pub returns-clause-dec : goal.returns-clause-dec
 returns-clause-dec c =
     let a = c.args in
     let m = lent_lowering a.store.now a.last_known_shingle.now a.points.now a.labels.now in
-    dec_whole a.s.now c.dec_unchecked.new.s m _ refl refl _ a.index.0 a.label.0 c.dec_unchecked.ensures.dec
+    dec_whole a.s.now c.dec_unchecked.new.s m _ refl refl _ a.change.index.0 a.change.label.0 c.dec_unchecked.ensures.dec

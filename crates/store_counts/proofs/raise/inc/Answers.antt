@@ -21,11 +21,11 @@ returns-in_err-ok_or-clause-inc c =
     let a = c.args in
     let m = lent_raising a.store.now a.last_known_shingle.now a.points.now a.labels.now in
     let ill = read_failed a.s a.store.now a.last_known_shingle.now (points_raising a.points.now) (lists_raising a.labels.now) c.read.result c.read.ensures c.read-2.result c.read-2.ensures _ _ c.check.ensures _ (sym c.ok_or.ensures.value ∙ c.in_err-ok_or.was) in
-    let refused = inc_ill (point_store a.s m) ill.0 a.index.0 a.label.0 in
+    let refused = inc_ill (point_store a.s m) ill.0 a.change.index.0 a.change.label.0 in
     search (rules, refused, ill.1)
 
 pub returns-clause-inc : goal.returns-clause-inc
 returns-clause-inc c =
     let a = c.args in
     let m = lent_raising a.store.now a.last_known_shingle.now a.points.now a.labels.now in
-    inc_whole a.s a.s m _ refl refl _ a.index.0 a.label.0 c.inc_unchecked.ensures.inc
+    inc_whole a.s a.s m _ refl refl _ a.change.index.0 a.change.label.0 c.inc_unchecked.ensures.inc
