@@ -4,7 +4,7 @@ use labels::{LabelLowering, LabelRaising, LabelTaking};
 use store_add::add;
 use store_adjust_pairs::adjust_count;
 use store_counts::{dec, inc};
-use store_definitions::{AdjustRefusal, Kept, Pair, PointRaising, PointTables};
+use store_definitions::{AdjustRefusal, Change, Kept, Pair, PointRaising, PointTables};
 use store_rows::compact;
 use terms::{FloatBits, LabelIndex, PointIndex, Refusal};
 
@@ -62,8 +62,7 @@ impl Block {
             &self.window,
             &mut points,
             &mut labels,
-            index,
-            label,
+            Change { index, label },
         )
     }
 
@@ -91,8 +90,7 @@ impl Block {
             &self.window,
             &mut points,
             &mut labels,
-            index,
-            label,
+            Change { index, label },
         )
     }
 

@@ -2,7 +2,7 @@
 ghost use Rattle.std.specs.Prelude.{cond, true, ◌≡◌, ◌<◌, length, get_or};
 ghost use Rattle.hold_definitions.specs.Lent.{hold_memory};
 ghost use Rattle.interval_store_manager.specs.Calls.{go};
-ghost use Rattle.labels.specs.Lent.{SameWriting, label_lists};
+ghost use Rattle.labels.specs.Lent.{SameWriting, lists_writing};
 ghost use Rattle.store_definitions.specs.Counting.{dec_test, decremented};
 ghost use Rattle.store_definitions.specs.Lent.{SamePoints, lent_writing, points_lent};
 ghost use Rattle.store_check.specs.Tables.{tables_of};
@@ -16,7 +16,7 @@ use crate::list::{push_both, slide_both};
 use hold_definitions::Hold;
 use labels::{LabelLowering, LabelWriting};
 use store_counts::dec_accepted;
-use store_definitions::{Kept, PointTables, Store};
+use store_definitions::{Change, Kept, PointTables, Store};
 use terms::{FloatBits, LabelIndex, NONE, PointIndex};
 
 // The label index of the oldest held point: none with labels off.
@@ -31,40 +31,33 @@ fn oldest_label(store_labels: bool, held_labels: &[u16]) -> usize
 }
 
 // A dec of the store that the hold has checked.
-// Kept: the slices are parameters: a dec is lent some of them to read, which the checker does not cover in a struct's fields.
 fn lower(
     s: &mut Store,
     floats: usize,
     window: usize,
     points: &mut PointTables,
-    labels: &mut [u8],
-    label_attributes: &mut [u16],
-    label_count: &mut [u16],
-    label_starts: &mut [u16],
-    label_ends: &mut [u16],
-    attributes: &mut [u8],
-    attribute_count: &mut [u32],
-    attribute_starts: &mut [u16],
-    attribute_ends: &mut [u16],
-    index: PointIndex,
-    label: LabelIndex,
+    labels: &mut LabelWriting,
+    change: Change,
 )
-    requires { (well_formed (point_store s.old (tables_of floats window (points_lent points.old) (label_lists labels.old label_attributes.old label_count.old label_starts.old label_ends.old attributes.old attribute_count.old attribute_starts.old attribute_ends.old))) ≡ true) × (dec_test (point_store s.old (tables_of floats window (points_lent points.old) (label_lists labels.old label_attributes.old label_count.old label_starts.old label_ends.old attributes.old attribute_count.old attribute_starts.old attribute_ends.old))) index.0 label.0 ≡ go) }
-    ensures same { SamePoints points.old points.new }
-    ensures lowered { point_store s.new (tables_of floats window (points_lent points.new) (label_lists labels.new label_attributes.new label_count.new label_starts.new label_ends.new attributes.new attribute_count.new attribute_starts.new attribute_ends.new)) ≡ decremented (point_store s.old (tables_of floats window (points_lent points.old) (label_lists labels.old label_attributes.old label_count.old label_starts.old label_ends.old attributes.old attribute_count.old attribute_starts.old attribute_ends.old))) index.0 label.0 }
+    requires { (well_formed (point_store s.old (tables_of floats window (points_lent points.old) (lists_writing labels.old))) ≡ true) × (dec_test (point_store s.old (tables_of floats window (points_lent points.old) (lists_writing labels.old))) change.index.0 change.label.0 ≡ go) }
+    ensures same { SamePoints points.old points.new × SameWriting labels.old labels.new }
+    ensures lowered { point_store s.new (tables_of floats window (points_lent points.new) (lists_writing labels.new)) ≡ decremented (point_store s.old (tables_of floats window (points_lent points.old) (lists_writing labels.old))) change.index.0 change.label.0 }
 {
+    let codes = &mut *labels.labels;
+    let label_attributes = &mut *labels.label_attributes;
+    let attributes = &mut *labels.attributes;
     let mut lent = LabelLowering {
-        labels,
+        labels: codes,
         label_attributes,
-        label_count,
-        label_starts,
-        label_ends,
+        label_count: labels.label_count,
+        label_starts: labels.label_starts,
+        label_ends: labels.label_ends,
         attributes,
-        attribute_count,
-        attribute_starts,
-        attribute_ends,
+        attribute_count: labels.attribute_count,
+        attribute_starts: labels.attribute_starts,
+        attribute_ends: labels.attribute_ends,
     };
-    dec_accepted(s, floats, window, points, &mut lent, index, label);
+    dec_accepted(s, floats, window, points, &mut lent, change);
 }
 
 pub fn keep_point(
@@ -96,24 +89,17 @@ pub fn keep_point(
         h.held += 1;
         return;
     }
-    let oldest = PointIndex(held_indices[0] as usize);
-    let its_label = LabelIndex(oldest_label(store_labels, held_labels));
+    let oldest = Change {
+        index: PointIndex(held_indices[0] as usize),
+        label: LabelIndex(oldest_label(store_labels, held_labels)),
+    };
     lower(
         &mut h.store,
         store.len(),
         last_known_shingle.len(),
         points,
-        labels.labels,
-        labels.label_attributes,
-        labels.label_count,
-        labels.label_starts,
-        labels.label_ends,
-        labels.attributes,
-        labels.attribute_count,
-        labels.attribute_starts,
-        labels.attribute_ends,
+        labels,
         oldest,
-        its_label,
     );
     slide_both(
         store_labels,

@@ -7,13 +7,13 @@ ghost use Rattle.float_bits.specs.Words.{words_equal};
 ghost use Rattle.hold_definitions.specs.Adding.{hold_added, hold_add_spec};
 ghost use Rattle.hold_definitions.specs.Answers.{hold_outcome};
 ghost use Rattle.hold_definitions.specs.Lent.{hold_memory};
-ghost use Rattle.labels.specs.Lent.{SameWriting, label_lists};
+ghost use Rattle.labels.specs.Lent.{SameWriting};
 ghost use Rattle.hold_definitions.specs.Memory.{point_hold, store_of};
 ghost use Rattle.hold_definitions.specs.WellFormed.{hold_well_formed};
 ghost use Rattle.store_check.specs.Figures.{FiguresOf};
 ghost use Rattle.store_definitions.specs.Adding.{add_spec};
 ghost use Rattle.store_definitions.specs.Answers.{added_means, outcome};
-ghost use Rattle.store_definitions.specs.Lent.{SamePoints, lent_writing, memory, points_lent};
+ghost use Rattle.store_definitions.specs.Lent.{SamePoints, lent_writing};
 ghost use Rattle.store_definitions.specs.WellFormed.{well_formed};
 ghost use Rattle.store_definitions.specs.Memory.{point_store};
 
@@ -30,38 +30,31 @@ use store_definitions::{Kept, PointTables, Store};
 use terms::{FloatBits, Refusal};
 
 // An add of the store that the hold has checked.
-// Kept: the slices are parameters: an add is lent some of them to read, which the checker does not cover in a struct's fields.
 fn add_to_store(
     s: &mut Store,
     store: &mut [FloatBits],
     last_known_shingle: &mut [FloatBits],
     points: &mut PointTables,
-    labels: &mut [u8],
-    label_attributes: &mut [u16],
-    label_count: &mut [u16],
-    label_starts: &mut [u16],
-    label_ends: &mut [u16],
-    attributes: &mut [u8],
-    attribute_count: &mut [u32],
-    attribute_starts: &mut [u16],
-    attribute_ends: &mut [u16],
+    labels: &mut LabelWriting,
     point: &[FloatBits],
     label: usize,
     figures: Figures,
 ) -> Result<Option<Kept>, Refusal>
-    requires { (well_formed (point_store s.old (memory store.old last_known_shingle.old (points_lent points.old) (label_lists labels.old label_attributes.old label_count.old label_starts.old label_ends.old attributes.old attribute_count.old attribute_starts.old attribute_ends.old))) ≡ true) × FiguresOf figures (point_store s.old (memory store.old last_known_shingle.old (points_lent points.old) (label_lists labels.old label_attributes.old label_count.old label_starts.old label_ends.old attributes.old attribute_count.old attribute_starts.old attribute_ends.old))) }
-    ensures same { SamePoints points.old points.new }
-    ensures added { outcome (added_means result) (point_store s.new (memory store.new last_known_shingle.new (points_lent points.new) (label_lists labels.new label_attributes.new label_count.new label_starts.new label_ends.new attributes.new attribute_count.new attribute_starts.new attribute_ends.new))) ≡ add_spec words_equal 0 (point_store s.old (memory store.old last_known_shingle.old (points_lent points.old) (label_lists labels.old label_attributes.old label_count.old label_starts.old label_ends.old attributes.old attribute_count.old attribute_starts.old attribute_ends.old))) point.now label }
+    requires { (well_formed (point_store s.old (lent_writing store.old last_known_shingle.old points.old labels.old)) ≡ true) × FiguresOf figures (point_store s.old (lent_writing store.old last_known_shingle.old points.old labels.old)) }
+    ensures same { SamePoints points.old points.new × SameWriting labels.old labels.new }
+    ensures added { outcome (added_means result) (point_store s.new (lent_writing store.new last_known_shingle.new points.new labels.new)) ≡ add_spec words_equal 0 (point_store s.old (lent_writing store.old last_known_shingle.old points.old labels.old)) point.now label }
 {
+    let label_ends = &mut *labels.label_ends;
+    let attribute_ends = &mut *labels.attribute_ends;
     let mut lent = LabelTaking {
-        labels,
-        label_attributes,
-        label_count,
-        label_starts,
+        labels: labels.labels,
+        label_attributes: labels.label_attributes,
+        label_count: labels.label_count,
+        label_starts: labels.label_starts,
         label_ends,
-        attributes,
-        attribute_count,
-        attribute_starts,
+        attributes: labels.attributes,
+        attribute_count: labels.attribute_count,
+        attribute_starts: labels.attribute_starts,
         attribute_ends,
     };
     add_unchecked(
@@ -98,15 +91,7 @@ fn add_checked(
         store,
         last_known_shingle,
         points,
-        labels.labels,
-        labels.label_attributes,
-        labels.label_count,
-        labels.label_starts,
-        labels.label_ends,
-        labels.attributes,
-        labels.attribute_count,
-        labels.attribute_starts,
-        labels.attribute_ends,
+        labels,
         point,
         label,
         figures,

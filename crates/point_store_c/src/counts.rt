@@ -10,7 +10,7 @@ ghost use Rattle.point_store_c.specs.Records.{store_in};
 use crate::answers::{adjusted_out, done_number, number_out};
 use crate::record::{store_in, store_out};
 use labels::{LabelLowering, LabelRaising};
-use store_definitions::{Pair, PointRaising, PointTables, Tables};
+use store_definitions::{Change, Pair, PointRaising, PointTables, Tables};
 use terms::{LabelIndex, PointIndex};
 
 #[unsafe(no_mangle)]
@@ -37,8 +37,10 @@ pub extern "C" fn ps_inc(
     ensures { exported result words.now [] (held store.now last_known_shingle.now reference_count.new location.now index_starts.now index_ends.now labels.now label_attributes.now label_count.new label_starts.now label_ends.now attributes.now attribute_count.new attribute_starts.now attribute_ends.now) ≡ exported_call words.now [] (inc_spec (point_store (store_in words.now) (held store.now last_known_shingle.now reference_count.old location.now index_starts.now index_ends.now labels.now label_attributes.now label_count.old label_starts.now label_ends.now attributes.now attribute_count.old attribute_starts.now attribute_ends.now)) index label) }
 {
     let mut s = store_in(words);
-    let index = PointIndex(index);
-    let label = LabelIndex(label);
+    let change = Change {
+        index: PointIndex(index),
+        label: LabelIndex(label),
+    };
     let mut points = PointRaising {
         reference_count,
         location,
@@ -62,8 +64,7 @@ pub extern "C" fn ps_inc(
         last_known_shingle,
         &mut points,
         &mut lent,
-        index,
-        label,
+        change,
     );
     done_number(answer)
 }
@@ -92,8 +93,10 @@ pub extern "C" fn ps_dec(
     ensures { exported result words.new [] (held store.now last_known_shingle.now reference_count.new location.new index_starts.new index_ends.new labels.now label_attributes.now label_count.new label_starts.new label_ends.new attributes.now attribute_count.new attribute_starts.new attribute_ends.new) ≡ exported_call words.old [] (dec_spec (point_store (store_in words.old) (held store.now last_known_shingle.now reference_count.old location.old index_starts.old index_ends.old labels.now label_attributes.now label_count.old label_starts.old label_ends.old attributes.now attribute_count.old attribute_starts.old attribute_ends.old)) index label) }
 {
     let mut s = store_in(words);
-    let index = PointIndex(index);
-    let label = LabelIndex(label);
+    let change = Change {
+        index: PointIndex(index),
+        label: LabelIndex(label),
+    };
     let mut points = PointTables {
         reference_count,
         location,
@@ -117,8 +120,7 @@ pub extern "C" fn ps_dec(
         last_known_shingle,
         &mut points,
         &mut lent,
-        index,
-        label,
+        change,
     );
     store_out(words, s);
     done_number(answer)

@@ -1,6 +1,5 @@
 // A kept add takes a label and an index.
 ghost use Rattle.std.specs.Prelude.{true, ◌≡◌, ◌≤◌, length};
-ghost use Rattle.labels.specs.Counted.{counted};
 ghost use Rattle.labels.specs.Forms.{label_outcome};
 ghost use Rattle.labels.specs.Lent.{SameTaking, labels_taking};
 ghost use Rattle.store_definitions.specs.Lent.{SamePoints, point_counts, points_lent};
@@ -55,23 +54,21 @@ fn grow_points(manager: &mut IntervalStoreManager, points: &mut PointTables, cap
 }
 
 // The next index gets the place.
-// Kept: the slices are parameters: the manager reads one while it writes another, which the checker does not cover in a struct's fields.
 fn take_next(
     manager: &mut IntervalStoreManager,
-    reference_count: &mut [u16],
-    location: &mut [u16],
-    index_starts: &mut [u16],
-    index_ends: &mut [u16],
+    points: &mut PointTables,
     place: usize,
     free: usize,
 ) -> Given
-    requires { Takeable (counted manager.old reference_count.old index_starts.old index_ends.old) location.old free × (place ≤ 65535) }
-    ensures { index_given result.index result.free (counted manager.new reference_count.new index_starts.new index_ends.new) location.new ≡ index_placed (counted manager.old reference_count.old index_starts.old index_ends.old) location.old place }
+    requires { Takeable (point_counts manager.old (points_lent points.old)) points.old.location.now free × (place ≤ 65535) }
+    ensures same { SamePoints points.old points.new }
+    ensures given { index_given result.index result.free (point_counts manager.new (points_lent points.new)) points.new.location.now ≡ index_placed (point_counts manager.old (points_lent points.old)) points.old.location.now place }
 {
-    let given = manager.get_unchecked(index_starts, index_ends, free);
+    let ends = &mut *points.index_ends;
+    let given = manager.get_unchecked(points.index_starts, ends, free);
     let index = given.index;
-    reference_count[index] = 1;
-    location[index] = place as u16;
+    points.reference_count[index] = 1;
+    points.location[index] = place as u16;
     given
 }
 
@@ -89,13 +86,5 @@ pub fn take_index(
 {
     grow_points(manager, points, capacity);
     let free = manager.capacity - live;
-    take_next(
-        manager,
-        points.reference_count,
-        points.location,
-        points.index_starts,
-        points.index_ends,
-        place,
-        free,
-    )
+    take_next(manager, points, place, free)
 }

@@ -30,8 +30,7 @@ fn pair_test(
         s,
         points.reference_count,
         labels.label_count,
-        pair.insert.index,
-        pair.insert.label,
+        pair.insert,
     )?;
     if pair.delete.index.0 == NONE {
         return Ok(());
@@ -40,8 +39,7 @@ fn pair_test(
         s,
         points.reference_count,
         labels.label_count,
-        pair.delete.index,
-        pair.delete.label,
+        pair.delete,
     )
 }
 
@@ -64,8 +62,7 @@ fn pair_accepted(
         labels.label_attributes,
         labels.label_count,
         labels.attribute_count,
-        pair.insert.index,
-        pair.insert.label,
+        pair.insert,
     );
     if pair.delete.index.0 != NONE {
         dec_accepted(
@@ -74,8 +71,7 @@ fn pair_accepted(
             window,
             points,
             labels,
-            pair.delete.index,
-            pair.delete.label,
+            pair.delete,
         );
     }
 }

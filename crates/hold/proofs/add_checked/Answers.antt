@@ -2,8 +2,7 @@
 use Rattle.std.proofs.Common.{ap, ◌∙◌}
 use Rattle.std.specs.Prelude.{Ok}
 use Rattle.float_bits.specs.Words.{words_equal}
-use Rattle.labels.specs.Lent.{label_lists}
-use Rattle.store_definitions.specs.Lent.{lent_writing, memory, points_lent}
+use Rattle.store_definitions.specs.Lent.{lent_writing}
 use Rattle.store_definitions.specs.Memory.{point_store}
 use Rattle.hold_definitions.specs.Lent.{hold_memory}
 use Rattle.hold_definitions.specs.Memory.{point_hold}
@@ -22,7 +21,7 @@ keep_point-requires c =
     let a = c.args in
     let h = point_hold a.h.now (hold_memory (lent_writing a.store.now a.last_known_shingle.now a.points.now a.labels.now) a.held_indices.now a.held_labels.now) in
     let u = c.add_to_store.new in
-    let q = point_store u.s (memory u.store u.last_known_shingle (points_lent u.points) (label_lists u.labels u.label_attributes u.label_count u.label_starts u.label_ends u.attributes u.attribute_count u.attribute_starts u.attribute_ends)) in
+    let q = point_store u.s (lent_writing u.store u.last_known_shingle u.points u.labels) in
     added_ready words_equal 0 h a.point.now a.label c.add_to_store.result q c.add_to_store.ensures.added c.requires.0 _ (c.in_ok-added.was ∙ ap Ok c.in-Some.is)
 
 pub returns-clause-added : goal.returns-clause-added
@@ -30,6 +29,6 @@ returns-clause-added c =
     let a = c.args in
     let h = point_hold a.h.now (hold_memory (lent_writing a.store.now a.last_known_shingle.now a.points.now a.labels.now) a.held_indices.now a.held_labels.now) in
     let u = c.add_to_store.new in
-    let q = point_store u.s (memory u.store u.last_known_shingle (points_lent u.points) (label_lists u.labels u.label_attributes u.label_count u.label_starts u.label_ends u.attributes u.attribute_count u.attribute_starts u.attribute_ends)) in
+    let q = point_store u.s (lent_writing u.store u.last_known_shingle u.points u.labels) in
     let k = c.keep_point.new in
     added_kept words_equal 0 h a.point.now a.label c.add_to_store.result q c.add_to_store.ensures.added _ (c.in_ok-added.was ∙ ap Ok c.in-Some.is) (point_hold k.h (hold_memory (lent_writing u.store u.last_known_shingle k.points k.labels) k.held_indices k.held_labels)) c.keep_point.ensures.kept

@@ -9,4 +9,4 @@ returns-clause-given c = let a = c.args in
     let t = point_counts a.manager.now (points_lent a.points.now) in
     let gp = c.grow_points in
     let u = point_counts gp.new.manager (points_lent gp.new.points) in
-    index_is a.capacity t a.points.now.location.now a.place u gp.new.points.location.now _ gp.ensures.table gp.ensures.places c.take_next.ensures
+    index_is a.capacity t a.points.now.location.now a.place u gp.new.points.location.now _ gp.ensures.table gp.ensures.places c.take_next.ensures.given
