@@ -156,15 +156,7 @@ pub fn open(
     opening_decision(shape, store, last_known_shingle, points.read(labels.read()))?;
     let classes = read_classes(class_text).ok_or(Refusal::ClassText)?;
     let fresh = fresh_record(shape, classes);
-    open_points(
-        shape,
-        store,
-        last_known_shingle,
-        points.reference_count,
-        points.location,
-        points.index_starts,
-        points.index_ends,
-    );
+    open_points(shape, store, last_known_shingle, points);
     open_labels(shape.store_labels, shape.capacity, labels);
     Ok(fresh)
 }

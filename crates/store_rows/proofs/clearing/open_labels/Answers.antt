@@ -1,5 +1,5 @@
 -- With labels off nothing is written.
-use Rattle.labels.specs.Lent.{label_lists, labels_of, labels_writing, lists_writing}
+use Rattle.labels.specs.Lent.{labels_writing}
 use Rattle.store_rows.specs.Openings.{label_managers, labels_on, labels_off}
 use Rattle.store_rows.proofs.clearing.open_labels.Goals as goal
 
@@ -7,7 +7,7 @@ pub returns-then-store_labels-clause-opened : goal.returns-then-store_labels-cla
 returns-then-store_labels-clause-opened c =
     let a = c.args in
     let g = c.open_labels in
-    labels_on a.store_labels a.capacity (labels_of g.result (lists_writing a.labels.now)) (labels_of g.result (label_lists g.new.labels g.new.label_attributes g.new.label_count g.new.label_starts g.new.label_ends g.new.attributes g.new.attribute_count g.new.attribute_starts g.new.attribute_ends)) c.if-store_labels.true g.ensures
+    labels_on a.store_labels a.capacity (labels_writing g.result a.labels.now) (labels_writing g.result g.new.labels) c.if-store_labels.true g.ensures.opened
 
 pub returns-else-store_labels-clause-opened : goal.returns-else-store_labels-clause-opened
 returns-else-store_labels-clause-opened c =

@@ -6,7 +6,7 @@ use Rattle.interval_store_manager.specs.Calls.{go, refuse, decision_means}
 use Rattle.labels.specs.Lent.{labels_writing, lists_writing}
 use Rattle.store_definitions.specs.Lent.{lent_writing, points_lent, read_as}
 use Rattle.store_definitions.specs.Opening.{open_judged}
-use Rattle.store_rows.specs.Openings.{points, label_managers, opening_ready, open_done, open_refused, text_refused}
+use Rattle.store_rows.specs.Openings.{points_in, label_managers, opening_ready, open_done, open_refused, text_refused}
 use Rattle.store_rows.proofs.opening.open.Goals as goal
 
 pub fresh_record-fresh-requires : goal.fresh_record-fresh-requires
@@ -38,7 +38,7 @@ returns-clause-opened c =
     let g = c.open_points in
     let l = c.open_labels in
     rw c.fresh_record-fresh.ensures
-    (open_done a.shape m a.class_text.now _ (points g.new.store g.new.last_known_shingle g.new.reference_count g.new.location g.new.index_starts g.new.index_ends) (labels_writing (label_managers a.shape.capacity) l.new.labels) goes (sym c.read_classes.ensures ∙ c.ok_or.ensures.ok_part ∙ ap result_ok c.in_ok-classes.was) g.ensures l.ensures.opened)
+    (open_done a.shape m a.class_text.now _ (points_in g.new.store g.new.last_known_shingle (points_lent g.new.tables)) (labels_writing (label_managers a.shape.capacity) l.new.labels) goes (sym c.read_classes.ensures ∙ c.ok_or.ensures.ok_part ∙ ap result_ok c.in_ok-classes.was) g.ensures.opened l.ensures.opened)
 
 pub returns-in_err-opening_decision-clause-opened : goal.returns-in_err-opening_decision-clause-opened
 returns-in_err-opening_decision-clause-opened c =
