@@ -1,8 +1,8 @@
 // The lent tables of a store: all that is lent but the floats and the window, which only what moves elements takes. A call that writes gets
 // the points' half as `PointTables` or `PointRaising`, and the label half beside it, by what it writes there.
 // Kept: floats, window, points and labels are parameters of their own: a struct that holds a second one is not known after a call, and a
-// flat one would be a form for each call besides. Floats, window and tables of a reading would be put together for one call, and taken
-// apart by the check, which sees of floats and window how many there are.
+// flat one would be a form for each call besides. So are floats, window and tables of a reading: each caller would put the three
+// together for one call, and the check would take them apart, since it sees of floats and window how many there are.
 ghost use Rattle.std.specs.Prelude.{ℕ, List, ◌≡◌};
 ghost use Rattle.store_definitions.specs.Lent.{held, lent};
 

@@ -1,8 +1,6 @@
 // The store's other readings. Each takes any record and any lent memory, checks first and refuses by document 01's numbers; the
 // store is only read, and an output slice of a refused call is left as it was. What follows the check stands in `row_readings`
 // and `labels`.
-// Kept: floats, window and tables are three parameters: each caller would put a struct of them together for one call, and the check
-// would take it apart, since it sees of floats and window how many there are.
 #![tactic(auto)]
 
 mod index_calls;
