@@ -1,5 +1,6 @@
 // A sliding hold over a store of its own: opening one, and an add that keeps the newest points and nothing older. Its readings
 // stand in `hold_check`.
+// Kept: the two tables of the list are parameters of their own, since the C interface lends them as `&mut` to an add alone.
 #![tactic(auto)]
 
 ghost use Rattle.std.specs.Prelude.{true, ◌≡◌};
