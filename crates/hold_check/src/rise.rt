@@ -65,16 +65,16 @@ fn runs_listed(first: usize, end: u16, list: &[u16]) -> bool
     ok
 }
 
-// How many of the first `to` places are not below the next. Counted in sixteen bits, so that eight are compared at a time.
-// Kept: compiled to vector code, as the machine code shows; what is compared is one place more than `to`, so no part of the slice says it.
+// How many places are not below the next. Counted in sixteen bits, so that eight are compared at a time.
+// Kept: compiled to vector code, as the machine code shows; `filter` and `count` would count in 64 bits.
 #[tactic(auto, using(crate::proofs::RiseLaws::count_more, crate::proofs::RiseLaws::fall_most, terms::specs::Below::count_le), unfolding(terms::specs::Below::count_below, terms::specs::Below::sum_below))]
-fn places_fall(to: usize, location: &[u16]) -> u16
-    requires { (to ≤ 1024) × (to < length location.now) }
-    ensures { result ≡ count_below to (falls location.now) }
+fn places_fall(location: &[u16]) -> u16
+    requires { length location.now ≤ 1024 }
+    ensures { result ≡ count_below (length location.now - 1) (falls location.now) }
 {
     let mut count: u16 = 0;
-    for i in 0..to {
-        let fall = location[i + 1] <= location[i];
+    for pair in location.windows(2) {
+        let fall = pair[1] <= pair[0];
         count += fall as u16;
     }
     count
@@ -116,7 +116,7 @@ pub fn runs_rise(location: &[u16], list: &[u16]) -> bool
         let end = runs_end(held, first, last);
         if ((first < end) & (last < end)) & ((held <= end) & (end <= n)) {
             let listed = runs_listed(first, end as u16, list);
-            let count = places_fall(end - 1, location);
+            let count = places_fall(&location[..end]);
             let fall = falls_before(first, location);
             let seam = (first + held <= end) | (location[end - 1] < location[0]);
             return (listed & (count == fall as u16)) & (seam & (location[last] < 65535));
