@@ -1,4 +1,5 @@
 // The pass over a hold's list.
+// Kept: no plainer: that there are at most 1,024 counts is one comparison in each contract: a record of it would be longer.
 ghost use Rattle.std.specs.Prelude.{◌≡◌, ◌≤◌, true, ◌&&◌, length, ◌==◌};
 ghost use Rattle.hold_check.specs.ListedOnce.{listed_once, entry_listed, entry_marked, NoMarks};
 ghost use Rattle.hold_check.specs.CheckLaws.{list_holds};
@@ -54,7 +55,7 @@ fn listed_once(counts: &[u16], list: &[u16]) -> bool
 }
 
 // Whether no count is above 1.
-// Kept: compiled to vector code, as the machine code shows; `all` would branch at each count.
+// Kept: vector code, where `all` branches at each entry; a fold is no plainer: the same test in a closure, and an answer for the invariant's line.
 #[tactic(auto, using(crate::proofs::TestLaws::every_more), unfolding(crate::specs::Rising::single_counts, terms::specs::Below::every_below))]
 pub fn counts_single(counts: &[u16]) -> bool
     ensures { result ≡ single_counts (length counts.now) counts.now }

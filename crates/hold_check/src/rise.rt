@@ -7,7 +7,7 @@ ghost use Rattle.hold_check.specs.Rising.{Rises};
 ghost use Rattle.hold_check.specs.Runs.{turned, runs_listed, falls, falls_before, RunsRise};
 
 // Whether every entry is below n.
-// Kept: compiled to vector code, as the machine code shows; `all` would branch at each entry.
+// Kept: vector code, where `all` branches at each entry; a fold is no plainer: the same test in a closure, and an answer for the invariant's line.
 #[tactic(auto, using(crate::proofs::TestLaws::every_more), unfolding(terms::specs::Below::every_below))]
 fn listed_below(n: u16, list: &[u16]) -> bool
     ensures { result ≡ every_below (length list.now) (λ k. nat_lt (slice_index list.now k) n) }
@@ -52,7 +52,7 @@ fn turn(end: u16, at: u16) -> u16
 }
 
 // Whether the entries are first, first + 1, .. below `end`, and then 0, 1, ..
-// Kept: compiled to vector code, as the machine code shows; `all` would branch at each entry.
+// Kept: vector code, where `all` branches at each entry; a fold is no plainer: the same test in a closure, and an answer for the invariant's line.
 #[tactic(auto, using(crate::proofs::TestLaws::every_more), unfolding(crate::specs::Runs::runs_listed, terms::specs::Below::every_below))]
 fn runs_listed(first: usize, end: u16, list: &[u16]) -> bool
     requires { (first ≤ 1024) × (length list.now ≤ 1024) }
@@ -65,16 +65,16 @@ fn runs_listed(first: usize, end: u16, list: &[u16]) -> bool
     ok
 }
 
-// How many of the first `to` places are not below the next. Counted in sixteen bits, so that eight are compared at a time.
-// Kept: compiled to vector code, as the machine code shows; what is compared is one place more than `to`, so no part of the slice says it.
+// How many places are not below the next. Counted in sixteen bits, so that eight are compared at a time.
+// Kept: compiled to vector code, as the machine code shows; `filter` and `count` would count in 64 bits.
 #[tactic(auto, using(crate::proofs::RiseLaws::count_more, crate::proofs::RiseLaws::fall_most, terms::specs::Below::count_le), unfolding(terms::specs::Below::count_below, terms::specs::Below::sum_below))]
-fn places_fall(to: usize, location: &[u16]) -> u16
-    requires { (to ≤ 1024) × (to < length location.now) }
-    ensures { result ≡ count_below to (falls location.now) }
+fn places_fall(location: &[u16]) -> u16
+    requires { length location.now ≤ 1024 }
+    ensures { result ≡ count_below (length location.now - 1) (falls location.now) }
 {
     let mut count: u16 = 0;
-    for i in 0..to {
-        let fall = location[i + 1] <= location[i];
+    for pair in location.windows(2) {
+        let fall = pair[1] <= pair[0];
         count += fall as u16;
     }
     count
@@ -116,7 +116,7 @@ pub fn runs_rise(location: &[u16], list: &[u16]) -> bool
         let end = runs_end(held, first, last);
         if ((first < end) & (last < end)) & ((held <= end) & (end <= n)) {
             let listed = runs_listed(first, end as u16, list);
-            let count = places_fall(end - 1, location);
+            let count = places_fall(&location[..end]);
             let fall = falls_before(first, location);
             let seam = (first + held <= end) | (location[end - 1] < location[0]);
             return (listed & (count == fall as u16)) & (seam & (location[last] < 65535));

@@ -1,5 +1,6 @@
 // A hold as its own calls leave it: one interval of free indices or two, and a list of one run of indices or two. Then nothing is
 // marked: each entry of the points' table is held against the intervals, and the places against their neighbours.
+// Kept: no plainer: that a table has at most 1,024 entries is one comparison in two contracts: a record of it would be longer.
 ghost use Rattle.std.specs.Prelude.{◌≡◌, ◌+◌, ◌-◌, ◌*◌, ◌<◌, ◌≤◌, true, false, cond, ◌||◌, length, slice_index, IfSome};
 ghost use Rattle.interval_store_manager.specs.Intervals.{inside};
 ghost use Rattle.store_check.specs.PointsTest.{PointsReady};
@@ -86,7 +87,7 @@ fn entry_held(free: bool, count: u16, place: u16) -> bool
 }
 
 // No early exit: every entry is read.
-// Kept: compiled to vector code, as the machine code shows; `all` would branch at each entry.
+// Kept: vector code, where `all` branches at each entry; a fold is no plainer: the same test in a closure, and an answer for the invariant's line.
 #[tactic(auto, using(crate::proofs::SteadyLaws::entries_more), unfolding(crate::specs::Steady::entries_held, terms::specs::Below::every_below))]
 fn entries_held(pair: Pair, counts: &[u16], location: &[u16]) -> bool
     requires { (length counts.now ≤ 1024) × (((pair.start + pair.more < 65536) × (pair.other + pair.further < 65536)) × (length counts.now ≤ length location.now)) }

@@ -42,7 +42,7 @@ fn distinct(rises: bool, limit: usize, location: &[u16]) -> bool
     if rises {
         return true;
     }
-    places_distinct(location.len(), limit, location)
+    places_distinct(limit, location)
 }
 
 // Where places rise along the list only the counts are left to ask.

@@ -7,6 +7,7 @@ ghost use Rattle.interval_store_manager.specs.Calls.{new_spec, changed, pushed, 
 
 use crate::{Given, IntervalStoreManager};
 
+// Kept: no plainer: that a manager is well-formed is one equation in three contracts, beside other facts in each.
 impl IntervalStoreManager {
     #[tactic(auto, using(crate::specs::Sound::allowed, crate::specs::Sound::lent), unfolding(crate::specs::Calls::new_spec))]
     pub fn new_unchecked(size: usize, starts: &mut [u16], ends: &mut [u16]) -> IntervalStoreManager

@@ -7,7 +7,7 @@ ghost use Rattle.label_check.specs.LabelPass.{label_bounded, ShareReady, Shared}
 
 use labels::{LabelTables, class_of};
 
-// Kept: the capacity stands beside the tables: with parts of four of them in its place each contract would speak of `take capacity`.
+// Kept: no plainer: with a part in place of the capacity a contract has one clause less, and each answer of its caller a law of `take` more.
 
 // Whether the mark fits the count and, of a live label, the code is one of the table's and the slot is below the capacity.
 // Without a branch, so that the pass over the labels is compiled to vector instructions.
@@ -33,7 +33,7 @@ fn labels_bounded(
 {
     let limit = capacity as u16;
     let mut ok = true;
-    // Kept: vector code; `all` over the four parts, zipped, takes 1,700 ns for 277 at 1,024 labels.
+    // Kept: vector code; `all` over the four parts, zipped, takes 1,700 ns for 277 at 1,024 labels; a fold is no plainer: the same test in a closure, and an answer for the invariant's line.
     for i in 0..capacity {
         let well = label_bounded(
             limit,

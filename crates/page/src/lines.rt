@@ -21,7 +21,7 @@ fn put_point(text: &mut [u8], at: usize, index: usize, count: usize, place: usiz
     decimal::put_line(text, at, COLUMNS, &row);
 }
 
-// Kept: here and below the table's length stands beside its tables: parts of two of them would put `take` in each contract.
+// Kept: no plainer: with the counts' part in place of the table's length a contract has one clause less, and its caller's proof a law of `take` more.
 fn write_lines(table_length: usize, reference_count: &[u16], location: &[u16], text: &mut [u8])
     requires { ((table_length ≤ length reference_count.now) × (table_length ≤ length location.now)) × (length (page_text table_length reference_count.now location.now) ≤ length text.old) }
     ensures { text.new ≡ put 0 (page_text table_length reference_count.now location.now) text.old }

@@ -10,6 +10,7 @@ use terms::Refusal;
 
 const LARGEST_LOOK_AHEAD: usize = 65535;
 
+// Kept: no plainer: that a store is `Shingled` is one fact in each contract, and a record already.
 #[tactic(auto, unfolding(store_definitions::specs::IndexLists::value_limit))]
 fn value_limit(s: Store) -> usize
     requires { Shingled s }
@@ -49,8 +50,8 @@ fn move_values(first: usize, values: &[usize], out: &mut [usize])
     requires { (length out.old ≡ length values.now) × ((i : ℕ) → i < length values.now → first + get_or values.now i 0 < 2 ^ 64) }
     ensures { out.new ≡ map (λ v. first + v) values.now }
 {
-    for (i, value) in values.iter().enumerate() {
-        out[i] = first + *value;
+    for (i, entry) in out.iter_mut().enumerate() {
+        *entry = first + values[i];
     }
 }
 

@@ -95,5 +95,6 @@ pub fn points_well(
     ensures { result ≡ then_some (points_test s reference_count.now location.now index_starts.now index_ends.now) (counts_live (table_length s) reference_count.now) }
 {
     let table = table_well(s, reference_count, location, index_starts, index_ends)?;
-    places_distinct(s.index_manager.capacity, table.limit, location).then_some(table.live)
+    let places = &location[..s.index_manager.capacity];
+    places_distinct(table.limit, places).then_some(table.live)
 }
