@@ -37,6 +37,7 @@ fn still_waits(s: Store) -> bool
     false
 }
 
+// Kept: that the table is within the capacity is one comparison in three contracts: a record of it would be longer.
 // No index is free, and growth gives none.
 #[tactic(auto, unfolding(store_definitions::specs::Adding::table_full))]
 fn table_full(s: Store) -> bool

@@ -70,7 +70,7 @@ pub struct Shape {
 #[derive(Clone, Copy)]
 pub struct Kept {
     pub index: PointIndex,
-    // Kept: with labels off NONE: a dec takes the number, and the C interface lends it, so an Option would be turned into it at each.
+    // Kept: with labels off NONE: a dec takes the number and C is lent it, so an Option would be turned into it at each.
     pub label: LabelIndex,
     pub laid: Laid,
     pub free_indices: usize,
