@@ -18,6 +18,7 @@ pub struct TableChecked {
     pub limit: usize,
 }
 
+// Kept: the four slices go one by one, in a hold's check too: `Tables` has nine more that no test here reads, and four alone would serve one call.
 // With marks for the free indices.
 fn marked_well(
     s: Store,
