@@ -7,7 +7,7 @@ ghost use Rattle.hold_check.specs.CheckLaws.{record_holds};
 
 use crate::list::list_well;
 use crate::store::store_well;
-use hold_definitions::Hold;
+use hold_definitions::{Hold, width_allowed};
 use store_check::Figures;
 use store_definitions::Tables;
 use terms::FloatBits;
@@ -23,7 +23,7 @@ fn labels_enough(store_labels: bool, capacity: usize, labels: usize) -> bool
 }
 
 // The width, the lengths of the two tables, and how many entries are in use.
-#[tactic(auto, unfolding(crate::specs::CheckLaws::record_holds, hold_definitions::specs::WellFormed::width_allowed))]
+#[tactic(auto, unfolding(crate::specs::CheckLaws::record_holds))]
 fn record_holds(
     width: usize,
     held: usize,
@@ -35,7 +35,7 @@ fn record_holds(
     ensures { result ≡ record_holds width held capacity store_labels indices labels }
 {
     let labelled = labels_enough(store_labels, capacity, labels);
-    ((1 <= width) & (width < capacity)) & (((capacity <= indices) & labelled) & (held <= width))
+    width_allowed(width, capacity) & (((capacity <= indices) & labelled) & (held <= width))
 }
 
 // What is counted of the store of a hold that is well-formed.

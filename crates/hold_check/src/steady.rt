@@ -142,7 +142,7 @@ pub fn steady(
                 && entries_held(pair, &reference_count[..n], places)
                 && runs_rise(places, list)
             {
-                let base = s.dimensions / s.shingle_size;
+                let base = s.base();
                 return last_ends(base, s.dimensions, s.start_free_region, location, list);
             }
         }

@@ -15,7 +15,7 @@ use crate::list::counts_single;
 use crate::rise::live_rise;
 use crate::steady::steady;
 use label_check::labels_well_formed;
-use labels::{LabelManagers, LabelsFree};
+use labels::LabelsFree;
 use store_check::{Figures, lengths_of, places_distinct, record_well, table_well};
 use store_definitions::{Store, Tables};
 
@@ -130,15 +130,11 @@ pub fn store_well(
             listed: points.listed,
         });
     }
-    let managers = LabelManagers {
-        label_manager: s.label_manager,
-        attribute_manager: s.attribute_manager,
-    };
     let free = labels_well_formed(
         s.store_labels,
         &s.classes,
         s.capacity,
-        managers,
+        s.label_managers(),
         tables.label_tables,
     )?;
     Some(StoreListed {

@@ -9,7 +9,7 @@ ghost use Rattle.labels.specs.Lent.{SameWriting};
 ghost use Rattle.store_definitions.specs.Lent.{SamePoints, lent_writing};
 ghost use Rattle.hold_opening.specs.Openings.{width_asked, tables_asked, open_asked};
 
-use hold_definitions::Hold;
+use hold_definitions::{Hold, width_allowed};
 use labels::LabelWriting;
 use store_definitions::{PointTables, Shape};
 use store_rows::{no_record, open, shape_allowed};
@@ -36,17 +36,14 @@ fn tables_decision(
     Ok(())
 }
 
-#[tactic(auto, unfolding(crate::specs::Openings::width_asked, hold_definitions::specs::WellFormed::width_allowed))]
+#[tactic(auto, unfolding(crate::specs::Openings::width_asked))]
 fn width_decision(width: usize, capacity: usize) -> Result<(), Refusal>
     ensures { decision_means result ≡ width_asked width capacity }
 {
-    if width < 1 {
-        return Err(Refusal::HoldWidth);
+    if width_allowed(width, capacity) {
+        return Ok(());
     }
-    if capacity <= width {
-        return Err(Refusal::HoldWidth);
-    }
-    Ok(())
+    Err(Refusal::HoldWidth)
 }
 
 // The shape, then the width, then the two tables; the rest of the memory is the store's.

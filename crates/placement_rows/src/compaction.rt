@@ -11,6 +11,7 @@ use super::one_pass::scan_places;
 use super::shape::Shape;
 use terms::FloatBits;
 
+// Kept: elements, places, shape and free start stand side by side in five functions: two callers would each put a struct together for one call.
 // `index_at` has an entry for every place that a point can have.
 fn compact_with(
     index_at: &mut [u16],
@@ -40,6 +41,7 @@ fn compact_sized<const PLACES: usize>(
     compact_with(&mut index_at, store, location, shape, start_free_region)
 }
 
+// Kept: with no heap a table's size is fixed where it is compiled, so each of the four sizes has a call of its own.
 fn compact_whole(
     store: &mut [FloatBits],
     location: &mut [u16],

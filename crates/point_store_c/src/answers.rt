@@ -45,20 +45,14 @@ pub fn adjusted_out(answer: Result<(), AdjustRefusal>, pairs_before: &mut u64) -
 }
 
 // Whether the row was joined, and its place.
-#[tactic(auto, unfolding(placement::specs::Laying::place_of))]
 fn laid_out(laid: Laid, joined: &mut u64, place: &mut u64)
     ensures { (joined.new ≡ joined_number laid) × (place.new ≡ place_of laid) }
 {
-    match laid {
-        Laid::Whole(at) => {
-            *joined = 0;
-            *place = at as u64;
-        }
-        Laid::Joined(at) => {
-            *joined = 1;
-            *place = at as u64;
-        }
-    }
+    *joined = match laid {
+        Laid::Whole(_) => 0,
+        Laid::Joined(_) => 1,
+    };
+    *place = laid.place() as u64;
 }
 
 #[tactic(auto, unfolding(crate::specs::ExportedStore::exported_reading))]

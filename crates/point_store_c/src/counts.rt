@@ -36,7 +36,7 @@ pub extern "C" fn ps_inc(
 ) -> u64
     ensures { exported result words.now [] (held store.now last_known_shingle.now reference_count.new location.now index_starts.now index_ends.now labels.now label_attributes.now label_count.new label_starts.now label_ends.now attributes.now attribute_count.new attribute_starts.now attribute_ends.now) ≡ exported_call words.now [] (inc_spec (point_store (store_in words.now) (held store.now last_known_shingle.now reference_count.old location.now index_starts.now index_ends.now labels.now label_attributes.now label_count.old label_starts.now label_ends.now attributes.now attribute_count.old attribute_starts.now attribute_ends.now)) index label) }
 {
-    let mut s = store_in(words);
+    let s = store_in(words);
     let change = Change {
         index: PointIndex(index),
         label: LabelIndex(label),
@@ -58,14 +58,7 @@ pub extern "C" fn ps_inc(
         attribute_starts,
         attribute_ends,
     };
-    let answer = store_counts::inc(
-        s,
-        store,
-        last_known_shingle,
-        &mut points,
-        &mut lent,
-        change,
-    );
+    let answer = store_counts::inc(s, store, last_known_shingle, &mut points, &mut lent, change);
     done_number(answer)
 }
 

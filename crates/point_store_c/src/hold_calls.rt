@@ -14,21 +14,21 @@ ghost use Rattle.terms.specs.Refusals.{number};
 use crate::answers::{added_out, done_number, number_out};
 use crate::hold_record::{HOLD_WORDS, hold_in, hold_out, hold_write};
 use crate::opening::shape_in;
-use hold_definitions::Hold;
+use hold_definitions::{Hold, width_allowed};
 use labels::LabelWriting;
 use store_definitions::{PointTables, Shape, Tables};
 use store_rows::shape_allowed;
 use terms::Refusal;
 
 // Why a record that is too short is refused: the shape is looked at first, then the width.
-#[tactic(auto, unfolding(crate::specs::ExportedHold::short_hold, hold_definitions::specs::WellFormed::width_allowed))]
+#[tactic(auto, unfolding(crate::specs::ExportedHold::short_hold))]
 fn short_hold(shape: Shape, width: usize) -> Refusal
     ensures { number result ≡ short_hold shape width }
 {
     if !shape_allowed(shape) {
         return Refusal::Shape;
     }
-    if (1 <= width) & (width < shape.capacity) {
+    if width_allowed(width, shape.capacity) {
         return Refusal::IllFormed;
     }
     Refusal::HoldWidth

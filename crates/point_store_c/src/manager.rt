@@ -54,6 +54,7 @@ pub extern "C" fn ps_manager_new(
         }
         return u64::from(Refusal::ManagerCapacity);
     }
+    // Kept: one function with the openings of store, hold and product would take the writer of the record as a closure, and save four lines.
     match IntervalStoreManager::new(size, starts, ends) {
         Err(why) => u64::from(why),
         Ok(m) => {

@@ -10,7 +10,6 @@ pub const PROBES_WORDS: usize = 47;
 // From here on one word a tally.
 const TALLY_WORDS: usize = 39;
 
-// Kept: tallies have loops of their own beside those of `class_words`, since one for both would take the cast as a closure.
 // A tally has 32 bits.
 const TALLY_END: u64 = 0x1_0000_0000;
 
@@ -40,6 +39,7 @@ fn tallies_read(words: &[u64]) -> [u32; 8]
     ensures { result ≡ tallies_read words.now }
 {
     let mut tallies = [0u32; 8];
+    // Kept: beside the loop of `class_words`, since one for both would take the cast as a closure.
     for i in 0..8 {
         tallies[i] = words[TALLY_WORDS + i] as u32;
     }
@@ -65,6 +65,7 @@ fn tallies_write(words: &mut [u64], tallies: [u32; 8])
     requires { 47 ≤ length words.old }
     ensures { words.new ≡ tallies_out words.old tallies }
 {
+    // Kept: beside the loop of `class_words`, since one for both would take the cast as a closure.
     for i in 0..8 {
         words[TALLY_WORDS + i] = tallies[i] as u64;
     }

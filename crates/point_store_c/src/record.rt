@@ -8,7 +8,7 @@ use interval_store_manager::IntervalStoreManager;
 use store_definitions::Store;
 use store_rows::no_record;
 
-// Kept: that a slice has so many words is one comparison in three contracts: a record of it would be longer.
+// Kept: that a slice has so many words is one comparison in each contract, 39 in four, 41 in three, 47 in five: a record would be longer.
 pub const RECORD_WORDS: usize = 39;
 // From here on one word a class of the table.
 const CLASS_WORDS: usize = 15;

@@ -25,19 +25,19 @@ use store_check::Figures;
 use store_definitions::{Kept, PointTables};
 use terms::{FloatBits, Refusal};
 
-// Of a product that is well-formed, with eight kinds and eight words.
+// Of a product that is well-formed.
 fn set_filled(
     p: &mut Probes,
     store: &mut [FloatBits],
     last_known_shingle: &mut [FloatBits],
     points: &mut PointTables,
     labels: &mut LabelTaking,
-    kinds: &[u8],
-    words: &[FloatBits],
+    kinds: &[u8; 8],
+    words: &[FloatBits; 8],
     label: usize,
     figures: Figures,
 ) -> Result<Option<Kept>, Refusal>
-    requires { (probes_well_formed (point_probes p.old (lent_taking store.old last_known_shingle.old points.old labels.old)) ≡ true) × ((length kinds.now ≡ 8) × ((length words.now ≡ 8) × FiguresOf figures (point_store p.old.store (lent_taking store.old last_known_shingle.old points.old labels.old)))) }
+    requires { (probes_well_formed (point_probes p.old (lent_taking store.old last_known_shingle.old points.old labels.old)) ≡ true) × FiguresOf figures (point_store p.old.store (lent_taking store.old last_known_shingle.old points.old labels.old)) }
     ensures same { SamePoints points.old points.new × SameTaking labels.old labels.new }
     ensures set { probes_outcome (added_means result) (point_probes p.new (lent_taking store.new last_known_shingle.new points.new labels.new)) ≡ set_added (point_probes p.old (lent_taking store.old last_known_shingle.old points.old labels.old)) (of_kinds kinds.now words.now) (add_spec words_equal 0 (point_store p.old.store (lent_taking store.old last_known_shingle.old points.old labels.old)) (filled (of_kinds kinds.now words.now) (last_floats (point_store p.old.store (lent_taking store.old last_known_shingle.old points.old labels.old)))) label) }
 {
@@ -74,6 +74,8 @@ pub fn set_words(
         Refusal::IllFormed,
     )?;
     set_decision(p.store.next_sequence_index, kinds, words.len())?;
+    let kinds = kinds.first_chunk::<8>().ok_or(Refusal::Length)?;
+    let words = words.first_chunk::<8>().ok_or(Refusal::Length)?;
     set_filled(
         p,
         store,

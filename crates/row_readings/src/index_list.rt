@@ -91,7 +91,7 @@ pub fn next_indices_unchecked(s: Store, look_ahead: usize, out: &mut [usize]) ->
     requires { Shingled s }
     ensures { output (done_means result) out.new ≡ indices_written s look_ahead (next_values s) out.old }
 {
-    let base = s.dimensions / s.shingle_size;
+    let base = s.base();
     if out.len() != base {
         return Err(Refusal::Length);
     }

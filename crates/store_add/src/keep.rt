@@ -1,7 +1,6 @@
 // An add that keeps its point, carried out.
 ghost use Rattle.std.specs.Prelude.{true, ◌≡◌};
 ghost use Rattle.float_bits.specs.Words.{words_equal};
-ghost use Rattle.placement.specs.Laying.{place_of};
 ghost use Rattle.store_check.specs.Figures.{FiguresOf};
 ghost use Rattle.store_definitions.specs.Adding.{keep, add_decided, keeps};
 ghost use Rattle.store_definitions.specs.Answers.{outcome};
@@ -15,20 +14,9 @@ use crate::lay::lay_row;
 use crate::room::find_room;
 use crate::take::{label_for, take_index};
 use labels::LabelTaking;
-use placement::Laid;
 use store_check::Figures;
 use store_definitions::{Kept, PointTables, Store};
 use terms::{FloatBits, PointIndex, Refusal};
-
-#[tactic(auto, unfolding(placement::specs::Laying::place_of))]
-// Kept: `usize::from(laid)` would not say that the number is the place.
-fn place_of(laid: Laid) -> usize
-    ensures { result ≡ place_of laid }
-{
-    match laid {
-        Laid::Whole(place) | Laid::Joined(place) => place,
-    }
-}
 
 // Refused where there is no room for the row.
 pub fn keep(
@@ -62,7 +50,7 @@ pub fn keep(
         &mut s.index_manager,
         points,
         capacity,
-        place_of(row.laid),
+        row.laid.place(),
         figures.live,
     );
     Ok(Kept {

@@ -7,7 +7,7 @@ ghost use Rattle.store_add.specs.Pieces.{managers_of, with_managers, label_for, 
 ghost use Rattle.store_add.specs.Requires.{Labelled, Growable, Takeable, IndexReady};
 
 use interval_store_manager::{Given, IntervalStoreManager};
-use labels::{LabelManagers, LabelTaking, LabelsFree, take_label};
+use labels::{LabelTaking, LabelsFree, take_label};
 use placement_rows::{grow_table, grown_length};
 use store_definitions::{PointTables, Store};
 use terms::{LabelIndex, NONE};
@@ -27,10 +27,7 @@ pub fn label_for(
     if !s.store_labels {
         return LabelIndex(NONE);
     }
-    let mut managers = LabelManagers {
-        label_manager: s.label_manager,
-        attribute_manager: s.attribute_manager,
-    };
+    let mut managers = s.label_managers();
     let label = take_label(&s.classes, s.capacity, &mut managers, labels, code, free);
     s.label_manager = managers.label_manager;
     s.attribute_manager = managers.attribute_manager;

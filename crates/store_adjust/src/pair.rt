@@ -26,21 +26,11 @@ fn pair_test(
 ) -> Result<(), Refusal>
     ensures { decision_means result ≡ pair_test (point_store s (counts_alone points.now.reference_count.now labels.now.label_count.now)) (pairing_of pair) }
 {
-    inc_test(
-        s,
-        points.reference_count,
-        labels.label_count,
-        pair.insert,
-    )?;
+    inc_test(s, points.reference_count, labels.label_count, pair.insert)?;
     if pair.delete.index.0 == NONE {
         return Ok(());
     }
-    dec_test(
-        s,
-        points.reference_count,
-        labels.label_count,
-        pair.delete,
-    )
+    dec_test(s, points.reference_count, labels.label_count, pair.delete)
 }
 
 // A pair that will be taken.
@@ -65,14 +55,7 @@ fn pair_accepted(
         pair.insert,
     );
     if pair.delete.index.0 != NONE {
-        dec_accepted(
-            s,
-            floats,
-            window,
-            points,
-            labels,
-            pair.delete,
-        );
+        dec_accepted(s, floats, window, points, labels, pair.delete);
     }
 }
 

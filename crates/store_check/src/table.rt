@@ -18,6 +18,7 @@ pub struct TableChecked {
     pub limit: usize,
 }
 
+// Kept: the four slices go one by one, in a hold's check too: `Tables` has nine more that no test here reads, and four alone would serve one call.
 // With marks for the free indices.
 fn marked_well(
     s: Store,
@@ -32,8 +33,7 @@ fn marked_well(
 {
     let manager = s.index_manager;
     let n = manager.capacity;
-    let base = s.dimensions / s.shingle_size;
-    let limit = place_limit(base, s.dimensions, s.start_free_region);
+    let limit = place_limit(s.base(), s.dimensions, s.start_free_region);
     if let Some(free) = mark_free(manager, index_starts, index_ends, marks) {
         if entries_well(n, limit, marks, reference_count, location) {
             return Some(TableChecked {

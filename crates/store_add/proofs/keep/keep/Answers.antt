@@ -71,8 +71,8 @@ take_index-given-requires c = let a = c.args in
     let r = rows_in fr.new.s fr.new.store fr.new.location in
     let e : tl.new.s ≡ with_managers (managers_of tl.new.s) (with_extent r.free r.store_length a.s.now) = tl.ensures.rest ∙ ap (with_managers (managers_of tl.new.s)) fr.ensures.rest in
     let v = room_rows a.s.now a.store.now a.points.now.location.now k.room fr.new.store fr.new.location fr.new.s.start_free_region fr.new.s.store_length fr.ensures.rows in
-    index_ready_in a.s.now tl.new.s _ r e a.points.now.reference_count.now a.points.now.index_starts.now a.points.now.index_ends.now fr.new.location c.place_of.result a.figures.live
-    (index_ready p (sound p c.requires.0) k.on.not_full a.s.now.dimensions (base_of a.s.now) c.in_ok-joined.joined r (omega (arith, v.free_inside, v.store_within, k.room.bounds.floats_most)) v.places_lent c.place_of.result (c.place_of.ensures ∙ ap place_of (c.lay_row-row.ensures.answer.0 ∙ laid_in a.s.now tl.new.s _ r e c.in_ok-joined.joined)) a.figures c.requires.1.1)
+    index_ready_in a.s.now tl.new.s _ r e a.points.now.reference_count.now a.points.now.index_starts.now a.points.now.index_ends.now fr.new.location c.place.result a.figures.live
+    (index_ready p (sound p c.requires.0) k.on.not_full a.s.now.dimensions (base_of a.s.now) c.in_ok-joined.joined r (omega (arith, v.free_inside, v.store_within, k.room.bounds.floats_most)) v.places_lent c.place.result (c.place.ensures ∙ ap place_of (c.lay_row-row.ensures.answer.0 ∙ laid_in a.s.now tl.new.s _ r e c.in_ok-joined.joined)) a.figures c.requires.1.1)
 
 pub returns-clause-kept : goal.returns-clause-kept
 returns-clause-kept c = let a = c.args in
@@ -80,7 +80,7 @@ returns-clause-kept c = let a = c.args in
     let fr = c.find_room in
     let tl = c.label_for-label in
     let lr = c.lay_row-row in
-    let po = c.place_of in
+    let po = c.place in
     let ti = c.take_index-given in
     let j = c.in_ok-joined.joined in
     let r = rows_in fr.new.s fr.new.store fr.new.location in
