@@ -10,6 +10,8 @@ use terms::Refusal;
 
 const LARGEST_LOOK_AHEAD: usize = 65535;
 
+// Kept: no plainer: base stands as a quotient in each definition of these lists, and an answer would tell by its contract what
+// `Store::base` gives.
 // Kept: no plainer: that a store is `Shingled` is one fact in each contract, and a record already.
 #[tactic(auto, unfolding(store_definitions::specs::IndexLists::value_limit))]
 fn value_limit(s: Store) -> usize
@@ -91,7 +93,7 @@ pub fn next_indices_unchecked(s: Store, look_ahead: usize, out: &mut [usize]) ->
     requires { Shingled s }
     ensures { output (done_means result) out.new ≡ indices_written s look_ahead (next_values s) out.old }
 {
-    let base = s.base();
+    let base = s.dimensions / s.shingle_size;
     if out.len() != base {
         return Err(Refusal::Length);
     }

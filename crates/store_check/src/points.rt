@@ -84,6 +84,7 @@ fn distinct_in<const N: usize>(location: &[u16]) -> bool
 }
 
 // Whether the live places are distinct, with a table of marks no larger than the places ask for.
+// Kept: with no heap a table's size is fixed where it is compiled, so each of the four sizes has a call of its own.
 pub fn places_distinct(places: usize, location: &[u16]) -> bool
     requires { (places ≤ 16384) × PlacesBelow places (length location.now) location.now }
     ensures { result ≡ places_distinct (length location.now) location.now }

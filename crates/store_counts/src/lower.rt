@@ -14,7 +14,7 @@ ghost use Rattle.store_counts.specs.Tables.{emptied};
 
 use crate::decide::dec_test;
 use interval_store_manager::IntervalStoreManager;
-use labels::{LabelLowering, dec_label};
+use labels::{LabelLowering, LabelManagers, dec_label};
 use store_check::check;
 use store_definitions::{Change, PointTables, Store};
 use terms::{EMPTY_PLACE, FloatBits, PointIndex, Refusal};
@@ -50,7 +50,11 @@ pub fn dec_accepted(
 {
     lower_point(&mut s.index_manager, points, change.index);
     if s.store_labels {
-        let mut managers = s.label_managers();
+        // Kept: no plainer: two answers would tell by its contract what `label_managers` gives.
+        let mut managers = LabelManagers {
+            label_manager: s.label_manager,
+            attribute_manager: s.attribute_manager,
+        };
         dec_label(&s.classes, s.capacity, &mut managers, labels, change.label);
         s.label_manager = managers.label_manager;
         s.attribute_manager = managers.attribute_manager;
