@@ -1,7 +1,8 @@
 // Opening, with document 01's table of classes or another.
 use crate::Block;
 use class_table::reason_classes_text;
-use store_definitions::Shape;
+use labels::LabelWriting;
+use store_definitions::{PointTables, Shape};
 use store_rows::open;
 use terms::Refusal;
 
@@ -26,23 +27,29 @@ impl Block {
         let mut attribute_count = [0; 16];
         let mut attribute_starts = [0; 16];
         let mut attribute_ends = [0; 16];
+        let mut points = PointTables {
+            reference_count: &mut reference_count,
+            location: &mut location,
+            index_starts: &mut index_starts,
+            index_ends: &mut index_ends,
+        };
+        let mut label_tables = LabelWriting {
+            labels: &mut labels,
+            label_attributes: &mut label_attributes,
+            label_count: &mut label_count,
+            label_starts: &mut label_starts,
+            label_ends: &mut label_ends,
+            attributes: &mut attributes,
+            attribute_count: &mut attribute_count,
+            attribute_starts: &mut attribute_starts,
+            attribute_ends: &mut attribute_ends,
+        };
         let store = open(
             shape,
             &mut floats,
             &mut window,
-            &mut reference_count,
-            &mut location,
-            &mut index_starts,
-            &mut index_ends,
-            &mut labels,
-            &mut label_attributes,
-            &mut label_count,
-            &mut label_starts,
-            &mut label_ends,
-            &mut attributes,
-            &mut attribute_count,
-            &mut attribute_starts,
-            &mut attribute_ends,
+            &mut points,
+            &mut label_tables,
             class_text,
         )?;
         Ok(Block {

@@ -16,6 +16,7 @@ pub fn table_allowed(classes: [u8; 24]) -> bool
 {
     let mut mask: u32 = 0;
     let mut high = false;
+    // Kept: one loop for both, in 8 ns of each check; with `any` before the mask it takes 19; a fold is no plainer: it would carry the two as a pair.
     for class in classes {
         high |= 9 < class;
         mask |= bit(class);

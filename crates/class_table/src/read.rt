@@ -34,6 +34,7 @@ pub fn read_classes(text: &[u8]) -> Option<[u8; 24]>
         return None;
     }
     let mut classes = [0u8; 24];
+    // Kept: tried with `chunks_exact(9)`; the proof did not close: the laws of a line speak of the text from a position on.
     for code in 0..24 {
         let at = code * 9;
         let class = class_in(text, at);

@@ -54,6 +54,7 @@ pub fn is_line(text: &[u8], width: usize, numbers: &[usize]) -> bool
     ensures { result ≡ same_bytes text.now (line width numbers.now) }
 {
     let mut at = 0;
+    // Kept: `chunks` of the text would give each number its field, but not of width 0, which is allowed.
     for number in numbers {
         let end = at + width;
         if !is_field(&text[at..end], *number) {

@@ -38,6 +38,7 @@ pub fn put_line(text: &mut [u8], at: usize, width: usize, numbers: &[usize])
     ensures { text.new ≡ put at (line width numbers.now) text.old }
 {
     let mut end = at;
+    // Kept: `chunks_mut` of the text would give each number its field, but not of width 0, which is allowed.
     for number in numbers {
         put_field(text, end, width, *number);
         end += width;

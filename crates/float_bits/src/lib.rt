@@ -41,17 +41,12 @@ pub fn word_of_float(x: f32) -> FloatBits
     if x.is_nan() { NAN } else { x.to_bits() }
 }
 
-// The same word at every place of two rows. With no early exit: a row has at most 64 words, and the vector loop over all of them is faster
-// than a way out of it.
+// The same word at every place of two rows.
+#[tactic(auto, using(crate::proofs::AllEqual::pointwise_equal))]
 pub fn rows_equal(a: &[FloatBits], b: &[FloatBits]) -> bool
-    requires { length a.now ≡ length b.now }
     ensures { result ≡ rows_equal a.now b.now }
 {
-    let mut equal = true;
-    for i in 0..a.len() {
-        equal &= a[i] == b[i];
-    }
-    equal
+    a == b
 }
 
 // To each sum its float of the row times the weight: the product is rounded, then the sum.

@@ -1,14 +1,22 @@
 // What a hold does once its store has kept a point: the point joins the list, and the oldest is given up once there are too many.
 ghost use Rattle.std.specs.Prelude.{cond, true, ◌≡◌, ◌<◌, length, get_or};
-ghost use Rattle.hold_definitions.specs.Lent.{hold_held};
+ghost use Rattle.hold_definitions.specs.Lent.{hold_memory};
+ghost use Rattle.interval_store_manager.specs.Calls.{go};
+ghost use Rattle.labels.specs.Lent.{SameWriting, lists_writing};
+ghost use Rattle.store_definitions.specs.Counting.{dec_test, decremented};
+ghost use Rattle.store_definitions.specs.Lent.{SamePoints, lent_writing, points_lent};
+ghost use Rattle.store_check.specs.Tables.{tables_of};
+ghost use Rattle.store_definitions.specs.Memory.{point_store};
+ghost use Rattle.store_definitions.specs.WellFormed.{well_formed};
 ghost use Rattle.hold_definitions.specs.Memory.{point_hold};
 ghost use Rattle.labels.specs.Decisions.{none};
 ghost use Rattle.hold.specs.Keeping.{PointReady, point_kept};
 
 use crate::list::{push_both, slide_both};
 use hold_definitions::Hold;
+use labels::{LabelLowering, LabelWriting};
 use store_counts::dec_accepted;
-use store_definitions::Kept;
+use store_definitions::{Change, Kept, PointTables, Store};
 use terms::{FloatBits, LabelIndex, NONE, PointIndex};
 
 // The label index of the oldest held point: none with labels off.
@@ -22,29 +30,49 @@ fn oldest_label(store_labels: bool, held_labels: &[u16]) -> usize
     NONE
 }
 
+// A dec of the store that the hold has checked.
+fn lower(
+    s: &mut Store,
+    floats: usize,
+    window: usize,
+    points: &mut PointTables,
+    labels: &mut LabelWriting,
+    change: Change,
+)
+    requires { (well_formed (point_store s.old (tables_of floats window (points_lent points.old) (lists_writing labels.old))) ≡ true) × (dec_test (point_store s.old (tables_of floats window (points_lent points.old) (lists_writing labels.old))) change.index.0 change.label.0 ≡ go) }
+    ensures same { SamePoints points.old points.new × SameWriting labels.old labels.new }
+    ensures lowered { point_store s.new (tables_of floats window (points_lent points.new) (lists_writing labels.new)) ≡ decremented (point_store s.old (tables_of floats window (points_lent points.old) (lists_writing labels.old))) change.index.0 change.label.0 }
+{
+    let codes = &mut *labels.labels;
+    let label_attributes = &mut *labels.label_attributes;
+    let attributes = &mut *labels.attributes;
+    let mut lent = LabelLowering {
+        labels: codes,
+        label_attributes,
+        label_count: labels.label_count,
+        label_starts: labels.label_starts,
+        label_ends: labels.label_ends,
+        attributes,
+        attribute_count: labels.attribute_count,
+        attribute_starts: labels.attribute_starts,
+        attribute_ends: labels.attribute_ends,
+    };
+    dec_accepted(s, floats, window, points, &mut lent, change);
+}
+
 pub fn keep_point(
     h: &mut Hold,
     kept: Kept,
     store: &[FloatBits],
     last_known_shingle: &[FloatBits],
-    reference_count: &mut [u16],
-    location: &mut [u16],
-    index_starts: &mut [u16],
-    index_ends: &mut [u16],
-    labels: &[u8],
-    label_attributes: &[u16],
-    label_count: &mut [u16],
-    label_starts: &mut [u16],
-    label_ends: &mut [u16],
-    attributes: &[u8],
-    attribute_count: &mut [u32],
-    attribute_starts: &mut [u16],
-    attribute_ends: &mut [u16],
+    points: &mut PointTables,
+    labels: &mut LabelWriting,
     held_indices: &mut [u16],
     held_labels: &mut [u16],
 )
-    requires { PointReady kept (point_hold h.old (hold_held store.now last_known_shingle.now reference_count.old location.old index_starts.old index_ends.old labels.now label_attributes.now label_count.old label_starts.old label_ends.old attributes.now attribute_count.old attribute_starts.old attribute_ends.old held_indices.old held_labels.old)) }
-    ensures { point_hold h.new (hold_held store.now last_known_shingle.now reference_count.new location.new index_starts.new index_ends.new labels.now label_attributes.now label_count.new label_starts.new label_ends.new attributes.now attribute_count.new attribute_starts.new attribute_ends.new held_indices.new held_labels.new) ≡ point_kept kept (point_hold h.old (hold_held store.now last_known_shingle.now reference_count.old location.old index_starts.old index_ends.old labels.now label_attributes.now label_count.old label_starts.old label_ends.old attributes.now attribute_count.old attribute_starts.old attribute_ends.old held_indices.old held_labels.old)) }
+    requires { PointReady kept (point_hold h.old (hold_memory (lent_writing store.now last_known_shingle.now points.old labels.old) held_indices.old held_labels.old)) }
+    ensures same { SamePoints points.old points.new × SameWriting labels.old labels.new }
+    ensures kept { point_hold h.new (hold_memory (lent_writing store.now last_known_shingle.now points.new labels.new) held_indices.new held_labels.new) ≡ point_kept kept (point_hold h.old (hold_memory (lent_writing store.now last_known_shingle.now points.old labels.old) held_indices.old held_labels.old)) }
 {
     let store_labels = h.store.store_labels;
     let index = kept.index.0;
@@ -61,27 +89,17 @@ pub fn keep_point(
         h.held += 1;
         return;
     }
-    let oldest = PointIndex(held_indices[0] as usize);
-    let its_label = LabelIndex(oldest_label(store_labels, held_labels));
-    dec_accepted(
+    let oldest = Change {
+        index: PointIndex(held_indices[0] as usize),
+        label: LabelIndex(oldest_label(store_labels, held_labels)),
+    };
+    lower(
         &mut h.store,
         store.len(),
         last_known_shingle.len(),
-        reference_count,
-        location,
-        index_starts,
-        index_ends,
+        points,
         labels,
-        label_attributes,
-        label_count,
-        label_starts,
-        label_ends,
-        attributes,
-        attribute_count,
-        attribute_starts,
-        attribute_ends,
         oldest,
-        its_label,
     );
     slide_both(
         store_labels,

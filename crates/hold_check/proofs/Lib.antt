@@ -1,5 +1,7 @@
 mod MarkLaws
 mod TestLaws
 mod RiseLaws
+mod PartLaws
 mod StoreLaws
+mod HoldLaws
 mod SteadyLaws

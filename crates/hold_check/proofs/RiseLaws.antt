@@ -1,8 +1,9 @@
 -- One entry more of a list along which places rise.
-use Rattle.std.proofs.Common.{◌≡◌, ℕ, suc, ◌+◌, ◌-◌, ◌<◌, ◌≤◌, Bool, true, false, ◌&&◌, ◌||◌, eqb, ltb, leb, List, [], ◌∷◌, ◌++◌, length, get_or, take, sym, refl, ap, ◌∙◌, add-one, arith, take-suc, ltb-false, ltb-true, eqb-true, leb-true}
+use Rattle.std.proofs.Common.{◌≡◌, ℕ, suc, ◌+◌, ◌-◌, ◌<◌, ◌≤◌, Bool, true, false, ◌&&◌, ◌||◌, eqb, ltb, leb, List, [], ◌∷◌, ◌++◌, length, get_or, take, sym, refl, ap, ◌∙◌, add-one, arith, take-suc, length-take-le, ltb-false, ltb-true, eqb-true, leb-true}
 use mir.Val.{bool_byte}
 use borrow.Author.Tests.{lt-leb}
-use Rattle.terms.specs.Below.{one, both, sum_below, count_below}
+use Rattle.std.proofs.lemmas.List.{get_or-take}
+use Rattle.terms.specs.Below.{one, both, every_below, every_at, sum_below, count_below, sum_same}
 use Rattle.hold_check.specs.Rising.{Rises, rises_more}
 use Rattle.hold_check.specs.Runs.{runs_listed, falls, falls_before, RunsRise, runs_rise}
 
@@ -17,6 +18,17 @@ fall_one false = refl
 pub count_more : (i : ℕ) (p : ℕ → Bool) (count : ℕ) → count ≡ count_below i p → count + bool_byte (p i) ≡ count_below (i + 1) p
 unfolding count_below sum_below
 count_more i p count e = rw (add-one i) (omega (arith, e, fall_one (p i)))
+
+-- the falls of a part that ends at `end` are those before its last place
+pub falls_part : (end : ℕ) (location : List ℕ) → end ≤ length location → count_below (length (take end location) - 1) (falls (take end location)) ≡ count_below (end - 1) (falls location)
+unfolding count_below
+falls_part end location l =
+    rw (length-take-le end location l)
+    (sum_same (end - 1) _ _ (λ i m. rw (get_or-take end location i 0 (omega arith), get_or-take end location (i + 1) 0 (omega arith)) refl))
+
+-- an entry of a list whose entries are below n
+pub listed_at : (n : ℕ) (list : List ℕ) (k : ℕ) → every_below (length list) (λ j. ltb (get_or list j 0) n) ≡ true → k < length list → get_or list k 0 < n
+listed_at n list k e l = ltb-true (get_or list k 0) n (every_at (length list) (λ j. ltb (get_or list j 0) n) e k l)
 
 -- the tests before the runs are looked at, taken apart
 pub some_held : (n held : ℕ) → (leb 1 held && leb held n) ≡ true → (1 ≤ held) × (held ≤ n)

@@ -1,6 +1,6 @@
 -- A list of indices along whose entries the places rise: it names no index twice and no two at one place. Where it names as many as
 -- are live, it names all of them.
-use Rattle.std.specs.Prelude.{◌≡◌, ℕ, ◌+◌, ◌<◌, ◌≤◌, Bool, true, false, not, ◌||◌, List, [], ◌∷◌, ◌++◌, length, get_or, take, ◌==◌, ◌≢◌, nat_lt, slice_index, slice_index_or}
+use Rattle.std.specs.Prelude.{◌≡◌, ℕ, ◌+◌, ◌<◌, ◌≤◌, Bool, true, false, not, ◌||◌, List, [], ◌∷◌, ◌++◌, length, get_or, ◌==◌, ◌≢◌, nat_lt, slice_index, slice_index_or}
 use Rattle.std.proofs.Math.Decide.{dec_lt, ℕ_discrete}
 use native.Mathlib.Omega.{arith}
 use Rattle.std.proofs.Math.Bool.{or-true, beq}
@@ -74,8 +74,8 @@ unfoldable pub single_counts : ℕ → List ℕ → Bool
 single_counts n counts = every_below n (λ i. nat_lt (slice_index counts i) 2)
 
 -- the list is known to name each live point once, each with count 1
-abbrev pub ListKnown : (n held live : ℕ) → (counts list : List ℕ) → Bool → Type 0
-ListKnown n held live counts list listed = listed ≡ true → (held ≡ live) × (listed_once n counts (take held list) ≡ true)
+abbrev pub ListKnown : (live : ℕ) → (counts list : List ℕ) → Bool → Type 0
+ListKnown live counts list listed = listed ≡ true → (length list ≡ live) × (listed_once (length counts) counts list ≡ true)
 
 module _ (n : ℕ) (counts location xs : List ℕ) (r : Rises n 65535 location xs) (lent : n ≤ length location) (empty : empty_uncounted n counts location ≡ true) (all : length xs ≡ counts_live n counts) where
   abbrev alive : ℕ → ℕ

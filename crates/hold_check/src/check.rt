@@ -7,7 +7,7 @@ ghost use Rattle.hold_check.specs.CheckLaws.{record_holds};
 
 use crate::list::list_well;
 use crate::store::store_well;
-use hold_definitions::Hold;
+use hold_definitions::{Hold, width_allowed};
 use store_check::Figures;
 use store_definitions::Tables;
 use terms::FloatBits;
@@ -23,6 +23,7 @@ fn labels_enough(store_labels: bool, capacity: usize, labels: usize) -> bool
 }
 
 // The width, the lengths of the two tables, and how many entries are in use.
+#[tactic(auto, unfolding(crate::specs::CheckLaws::record_holds))]
 fn record_holds(
     width: usize,
     held: usize,
@@ -34,10 +35,11 @@ fn record_holds(
     ensures { result ≡ record_holds width held capacity store_labels indices labels }
 {
     let labelled = labels_enough(store_labels, capacity, labels);
-    ((1 <= width) & (width < capacity)) & (((capacity <= indices) & labelled) & (held <= width))
+    width_allowed(width, capacity) & (((capacity <= indices) & labelled) & (held <= width))
 }
 
 // What is counted of the store of a hold that is well-formed.
+#[tactic(auto, using(crate::specs::Checked::record_ill, crate::proofs::HoldLaws::found_ill, crate::proofs::HoldLaws::found_by_list))]
 pub fn check_hold(
     h: Hold,
     store: &[FloatBits],
@@ -59,24 +61,16 @@ pub fn check_hold(
     ) {
         return None;
     }
-    let found = store_well(
-        s,
-        store.len(),
-        last_known_shingle.len(),
-        tables,
-        h.held,
-        held_indices,
-    )?;
+    let list = &held_indices[..h.held];
+    let found = store_well(s, store.len(), last_known_shingle.len(), tables, list)?;
     let well = list_well(
         found.listed,
         found.figures.live,
-        h.held,
-        s.index_manager.capacity,
         s.capacity,
         s.store_labels,
-        tables.reference_count,
+        &tables.reference_count[..s.index_manager.capacity],
         tables.label_tables.label_count,
-        held_indices,
+        list,
         held_labels,
     );
     well.then_some(found.figures)

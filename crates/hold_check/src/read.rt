@@ -1,5 +1,5 @@
 // The readings of a hold.
-ghost use Rattle.std.specs.Prelude.{◌≡◌, ◌≤◌, length, take};
+ghost use Rattle.std.specs.Prelude.{◌≡◌};
 ghost use Rattle.hold_definitions.specs.Lent.{hold_lent};
 ghost use Rattle.hold_definitions.specs.Memory.{point_hold};
 ghost use Rattle.hold_definitions.specs.Readings.{held_spec, held_number_spec};
@@ -10,15 +10,8 @@ use hold_definitions::Hold;
 use store_definitions::Tables;
 use terms::{FloatBits, Refusal};
 
-// The first entries of a list, as many as the output has.
-fn copy_list(list: &[u16], out: &mut [u16])
-    requires { length out.old ≤ length list.now }
-    ensures { out.new ≡ take (length out.old) list.now }
-{
-    out.copy_from_slice(&list[..out.len()]);
-}
-
 // The held point indices, oldest first. The output is exactly as long as the list.
+#[tactic(auto, using(hold_definitions::proofs::ReadingLaws::held_ill, hold_definitions::proofs::ReadingLaws::held_short, crate::specs::Checked::hold_checked_ok, crate::specs::Checked::hold_checked_err))]
 pub fn held(
     h: Hold,
     store: &[FloatBits],
@@ -42,11 +35,12 @@ pub fn held(
     if out.len() != h.held {
         return Err(Refusal::Length);
     }
-    copy_list(held_indices, out);
+    out.copy_from_slice(&held_indices[..h.held]);
     Ok(())
 }
 
 // How many points are held.
+#[tactic(auto, using(hold_definitions::proofs::ReadingLaws::number_ill, hold_definitions::proofs::ReadingLaws::number_well, crate::specs::Checked::hold_checked_ok, crate::specs::Checked::hold_checked_err))]
 pub fn held_number(
     h: Hold,
     store: &[FloatBits],

@@ -1,32 +1,36 @@
 // Along a hold's list places rise: an add lays its row behind the others, and compaction keeps their order. One pass without marks then
 // shows that the list names no index twice and no two at one place.
-ghost use Rattle.std.specs.Prelude.{◌≡◌, ◌+◌, ◌-◌, ◌<◌, ◌≤◌, true, length, take, if◌then◌else◌, nat_le, nat_lt, slice_index};
+// Kept: that a table has at most 1,024 entries is one comparison in each contract: a record of it would be longer.
+ghost use Rattle.std.specs.Prelude.{◌≡◌, ◌+◌, ◌-◌, ◌<◌, ◌≤◌, true, length, if◌then◌else◌, nat_le, nat_lt, slice_index};
 ghost use Rattle.terms.specs.Below.{every_below, count_below};
 ghost use Rattle.hold_check.specs.Rising.{Rises};
 ghost use Rattle.hold_check.specs.Runs.{turned, runs_listed, falls, falls_before, RunsRise};
 
-// Whether the first `held` entries are below n.
-fn listed_below(n: u16, held: usize, list: &[u16]) -> bool
-    requires { held ≤ length list.now }
-    ensures { result ≡ every_below held (λ k. nat_lt (slice_index list.now k) n) }
+// Whether every entry is below n.
+// Kept: vector code, where `all` branches at each entry; a fold is no plainer: the same test in a closure, and an answer for the invariant's line.
+#[tactic(auto, using(crate::proofs::TestLaws::every_more), unfolding(terms::specs::Below::every_below))]
+fn listed_below(n: u16, list: &[u16]) -> bool
+    ensures { result ≡ every_below (length list.now) (λ k. nat_lt (slice_index list.now k) n) }
 {
     let mut ok = true;
-    for k in 0..held {
-        ok &= list[k] < n;
+    for entry in list {
+        ok &= *entry < n;
     }
     ok
 }
 
-// Whether the first `held` entries are found at places that rise. Falls are counted, so that the loop has no branch.
-fn places_rise(n: usize, held: usize, location: &[u16], list: &[u16]) -> bool
-    requires { (n ≤ 1024) × ((n ≤ length location.now) × (held ≤ length list.now)) }
-    ensures { result ≡ true → Rises n 65535 location.now (take held list.now) }
+// Whether the entries are found at places that rise. Falls are counted, so that the loop has no branch.
+// Kept: no plainer: `next` comes from the entry before, and pairs of entries would look each place up twice.
+#[tactic(auto, using(crate::specs::Rising::rises_none, crate::proofs::RiseLaws::listed_at))]
+fn places_rise(location: &[u16], list: &[u16]) -> bool
+    requires { length location.now ≤ 1024 }
+    ensures { result ≡ true → Rises (length location.now) 65535 location.now list.now }
 {
     let mut falls: usize = 0;
     let mut next: usize = 0;
-    if listed_below(n as u16, held, list) {
-        for k in 0..held {
-            let place = location[list[k] as usize] as usize;
+    if listed_below(location.len() as u16, list) {
+        for entry in list {
+            let place = location[*entry as usize] as usize;
             let fall = place < next;
             falls += fall as usize;
             next = place + 1;
@@ -37,6 +41,7 @@ fn places_rise(n: usize, held: usize, location: &[u16], list: &[u16]) -> bool
 }
 
 // The index that `at` names where indices are counted on from 0 after `end`.
+#[tactic(auto, using(crate::specs::Runs::turned_below, crate::specs::Runs::turned_on))]
 fn turn(end: u16, at: u16) -> u16
     ensures { result ≡ turned end at }
 {
@@ -46,26 +51,30 @@ fn turn(end: u16, at: u16) -> u16
     at - end
 }
 
-// Whether the first `held` entries are first, first + 1, .. below `end`, and then 0, 1, ..
-fn runs_listed(held: usize, first: usize, end: u16, list: &[u16]) -> bool
-    requires { (held ≤ 1024) × ((first ≤ 1024) × (held ≤ length list.now)) }
-    ensures { result ≡ runs_listed held first end list.now }
+// Whether the entries are first, first + 1, .. below `end`, and then 0, 1, ..
+// Kept: vector code, where `all` branches at each entry; a fold is no plainer: the same test in a closure, and an answer for the invariant's line.
+#[tactic(auto, using(crate::proofs::TestLaws::every_more), unfolding(crate::specs::Runs::runs_listed, terms::specs::Below::every_below))]
+fn runs_listed(first: usize, end: u16, list: &[u16]) -> bool
+    requires { (first ≤ 1024) × (length list.now ≤ 1024) }
+    ensures { result ≡ runs_listed (length list.now) first end list.now }
 {
     let mut ok = true;
-    for k in 0..held {
+    for k in 0..list.len() {
         ok &= list[k] == turn(end, (first + k) as u16);
     }
     ok
 }
 
-// How many of the first places are not below the next. Counted in sixteen bits, so that eight are compared at a time.
-fn places_fall(to: usize, location: &[u16]) -> u16
-    requires { (to ≤ 1024) × (to < length location.now) }
-    ensures { result ≡ count_below to (falls location.now) }
+// How many places are not below the next. Counted in sixteen bits, so that eight are compared at a time.
+// Kept: compiled to vector code, as the machine code shows; `filter` and `count` would count in 64 bits.
+#[tactic(auto, using(crate::proofs::RiseLaws::count_more, crate::proofs::RiseLaws::fall_most, terms::specs::Below::count_le), unfolding(terms::specs::Below::count_below, terms::specs::Below::sum_below))]
+fn places_fall(location: &[u16]) -> u16
+    requires { length location.now ≤ 1024 }
+    ensures { result ≡ count_below (length location.now - 1) (falls location.now) }
 {
     let mut count: u16 = 0;
-    for i in 0..to {
-        let fall = location[i + 1] <= location[i];
+    for pair in location.windows(2) {
+        let fall = pair[1] <= pair[0];
         count += fall as u16;
     }
     count
@@ -95,17 +104,19 @@ fn runs_end(held: usize, first: usize, last: usize) -> usize
 
 // Whether the list is at most two runs of indices, the second from 0, and places rise along it. So it is where each add took the index
 // that the one before gave up; then no place is looked up through the list.
-pub fn runs_rise(n: usize, held: usize, location: &[u16], list: &[u16]) -> bool
-    requires { (n ≤ 1024) × ((n ≤ length location.now) × (held ≤ length list.now)) }
-    ensures { result ≡ true → RunsRise n held location.now list.now }
+pub fn runs_rise(location: &[u16], list: &[u16]) -> bool
+    requires { length location.now ≤ 1024 }
+    ensures { result ≡ true → RunsRise (length location.now) (length list.now) location.now list.now }
 {
+    let n = location.len();
+    let held = list.len();
     if (1 <= held) & (held <= n) {
         let first = list[0] as usize;
         let last = list[held - 1] as usize;
         let end = runs_end(held, first, last);
         if ((first < end) & (last < end)) & ((held <= end) & (end <= n)) {
-            let listed = runs_listed(held, first, end as u16, list);
-            let count = places_fall(end - 1, location);
+            let listed = runs_listed(first, end as u16, list);
+            let count = places_fall(&location[..end]);
             let fall = falls_before(first, location);
             let seam = (first + held <= end) | (location[end - 1] < location[0]);
             return (listed & (count == fall as u16)) & (seam & (location[last] < 65535));
@@ -115,12 +126,12 @@ pub fn runs_rise(n: usize, held: usize, location: &[u16], list: &[u16]) -> bool
 }
 
 // Whether the list is as long as there are live points, and places rise along it.
-pub fn live_rise(live: usize, n: usize, held: usize, location: &[u16], list: &[u16]) -> bool
-    requires { (n ≤ 1024) × ((n ≤ length location.now) × (held ≤ length list.now)) }
-    ensures { result ≡ true → (held ≡ live) × Rises n 65535 location.now (take held list.now) }
+pub fn live_rise(live: usize, location: &[u16], list: &[u16]) -> bool
+    requires { length location.now ≤ 1024 }
+    ensures { result ≡ true → (length list.now ≡ live) × Rises (length location.now) 65535 location.now list.now }
 {
-    if held == live {
-        return places_rise(n, held, location, list);
+    if list.len() == live {
+        return places_rise(location, list);
     }
     false
 }

@@ -2,6 +2,7 @@
 -- words.
 use Rattle.std.specs.Prelude.{ℕ}
 use Rattle.store_definitions.specs.declared.tables.Tables.{Tables}
+use Rattle.store_definitions.specs.Memory.{Memory}
 use Rattle.store_definitions.specs.Lent.{Ref, Slice, held, lent, entered, left}
 use Rattle.hold_definitions.specs.Memory.{HoldMemory}
 
@@ -21,3 +22,7 @@ hold_left a b c d e f g h i j k l m n o indices labels =
 abbrev pub hold_lent : Ref → Ref → Tables → Ref → Ref → HoldMemory ℕ
 hold_lent store window tables indices labels =
     record { store = lent store window tables; held_indices = indices; held_labels = labels }
+
+-- the memory of a hold over that of its store
+abbrev pub hold_memory : {E : Type 0} → Memory E → Ref → Ref → HoldMemory E
+hold_memory m indices labels = record { store = m; held_indices = indices; held_labels = labels }

@@ -2,6 +2,9 @@
 // interface are here, what every call does is in specs/; the code stands in the crate above.
 #![tactic(auto)]
 
+ghost use Rattle.std.specs.Prelude.{◌≡◌};
+ghost use Rattle.hold_definitions.specs.WellFormed.{width_allowed};
+
 use store_definitions::Store;
 
 // The record of a hold. Its store's memory is lent beside it, with two tables more: the held point indices and their label
@@ -13,4 +16,11 @@ pub struct Hold {
     pub width: usize,
     // How many entries of the two tables are in use.
     pub held: usize,
+}
+
+#[tactic(auto, unfolding(crate::specs::WellFormed::width_allowed))]
+pub fn width_allowed(width: usize, capacity: usize) -> bool
+    ensures { result ≡ width_allowed width capacity }
+{
+    (1 <= width) & (width < capacity)
 }

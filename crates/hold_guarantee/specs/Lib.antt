@@ -3,3 +3,4 @@ pub mod Run
 pub mod History
 pub mod Guarantee
 pub mod Ran
+pub mod Contracts

@@ -1,16 +1,17 @@
 // Opening a hold in lent memory: its store, its width, and an empty list.
-// Kept: the slices are parameters, as the exported opening has them: a struct of `&mut` slices comes back from a call under names of the
-// checker's own.
 #![tactic(auto)]
 
 ghost use Rattle.std.specs.Prelude.{◌≡◌};
-ghost use Rattle.hold_definitions.specs.Lent.{hold_held};
+ghost use Rattle.hold_definitions.specs.Lent.{hold_memory};
 ghost use Rattle.hold_definitions.specs.Opening.{no_hold, hold_opened, hold_open_spec};
 ghost use Rattle.interval_store_manager.specs.Calls.{decision_means};
+ghost use Rattle.labels.specs.Lent.{SameWriting};
+ghost use Rattle.store_definitions.specs.Lent.{SamePoints, lent_writing};
 ghost use Rattle.hold_opening.specs.Openings.{width_asked, tables_asked, open_asked};
 
-use hold_definitions::Hold;
-use store_definitions::Shape;
+use hold_definitions::{Hold, width_allowed};
+use labels::LabelWriting;
+use store_definitions::{PointTables, Shape};
 use store_rows::{no_record, open, shape_allowed};
 use terms::{FloatBits, Refusal};
 
@@ -35,17 +36,14 @@ fn tables_decision(
     Ok(())
 }
 
-#[tactic(auto, unfolding(crate::specs::Openings::width_asked, hold_definitions::specs::WellFormed::width_allowed))]
+#[tactic(auto, unfolding(crate::specs::Openings::width_asked))]
 fn width_decision(width: usize, capacity: usize) -> Result<(), Refusal>
     ensures { decision_means result ≡ width_asked width capacity }
 {
-    if width < 1 {
-        return Err(Refusal::HoldWidth);
+    if width_allowed(width, capacity) {
+        return Ok(());
     }
-    if capacity <= width {
-        return Err(Refusal::HoldWidth);
-    }
-    Ok(())
+    Err(Refusal::HoldWidth)
 }
 
 // The shape, then the width, then the two tables; the rest of the memory is the store's.
@@ -77,45 +75,17 @@ pub fn open_hold(
     width: usize,
     store: &mut [FloatBits],
     last_known_shingle: &mut [FloatBits],
-    reference_count: &mut [u16],
-    location: &mut [u16],
-    index_starts: &mut [u16],
-    index_ends: &mut [u16],
-    labels: &mut [u8],
-    label_attributes: &mut [u16],
-    label_count: &mut [u16],
-    label_starts: &mut [u16],
-    label_ends: &mut [u16],
-    attributes: &mut [u8],
-    attribute_count: &mut [u32],
-    attribute_starts: &mut [u16],
-    attribute_ends: &mut [u16],
+    points: &mut PointTables,
+    labels: &mut LabelWriting,
     held_indices: &[u16],
     held_labels: &[u16],
     class_text: &[u8],
 ) -> Result<Hold, Refusal>
-    ensures { hold_opened result (hold_held store.new last_known_shingle.new reference_count.new location.new index_starts.new index_ends.new labels.new label_attributes.new label_count.new label_starts.new label_ends.new attributes.new attribute_count.new attribute_starts.new attribute_ends.new held_indices.now held_labels.now) ≡ hold_open_spec 0 shape width class_text.now (hold_held store.old last_known_shingle.old reference_count.old location.old index_starts.old index_ends.old labels.old label_attributes.old label_count.old label_starts.old label_ends.old attributes.old attribute_count.old attribute_starts.old attribute_ends.old held_indices.now held_labels.now) }
+    ensures same { SamePoints points.old points.new × SameWriting labels.old labels.new }
+    ensures opened { hold_opened result (hold_memory (lent_writing store.new last_known_shingle.new points.new labels.new) held_indices.now held_labels.now) ≡ hold_open_spec 0 shape width class_text.now (hold_memory (lent_writing store.old last_known_shingle.old points.old labels.old) held_indices.now held_labels.now) }
 {
     open_decision(shape, width, held_indices.len(), held_labels.len())?;
-    let opened = open(
-        shape,
-        store,
-        last_known_shingle,
-        reference_count,
-        location,
-        index_starts,
-        index_ends,
-        labels,
-        label_attributes,
-        label_count,
-        label_starts,
-        label_ends,
-        attributes,
-        attribute_count,
-        attribute_starts,
-        attribute_ends,
-        class_text,
-    )?;
+    let opened = open(shape, store, last_known_shingle, points, labels, class_text)?;
     Ok(Hold {
         store: opened,
         width,

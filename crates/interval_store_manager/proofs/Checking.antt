@@ -1,15 +1,16 @@
 -- The well-formedness check: each of its ways out gives the answer that the definition gives.
 use Prim.Native.Nat.{ℕ, zero, suc, ◌≤◌, ◌<◌}
 use native.Mathlib.Omega.{arith}
-use native.Mathlib.Decide.{ℕ_discrete}
+use native.Mathlib.Decide.{ℕ_discrete, dec_lt}
 use mathlib.Core.List.{List}
 use mathlib.Core.Bool.{Bool, true, false, and-false}
 use mathlib.Core.Path.{◌≡◌, refl, sym, ◌∙◌}
-use lib.ListN.{get_or}
+use lib.ListN.{get_or, get_or-eq_default, length, take}
+use Rattle.std.proofs.lemmas.List.{get_or-take, length-take, length-take-le}
 use lib.Dec.{leb, eqb}
 use borrow.Author.Tests.{eq-eqb, ne_eqb, leb-true, le-leb}
 use Rattle.std.specs.Prelude.{Some, None}
-use Rattle.terms.specs.Below.{one_le, fails, and_make, sum_below, every_at}
+use Rattle.terms.specs.Below.{one_le, fails, and_make, sum_below, sum_same, every_at}
 use Rattle.interval_store_manager.specs.declared.IntervalStoreManager.{IntervalStoreManager}
 use Rattle.interval_store_manager.specs.Intervals.{inside, is_free, holders, free_number, in_bounds, none_shared}
 use Rattle.interval_store_manager.specs.WellFormed.{capacity_allowed, lent_enough, well_formed}
@@ -17,6 +18,18 @@ use Rattle.interval_store_manager.specs.StackLaws.{sizes, bounded_make, free_num
 use Rattle.interval_store_manager.specs.Sound.{sound, free_le_capacity}
 use Rattle.interval_store_manager.specs.Marks.{sizes_checked, Swept, Marked}
 use Rattle.interval_store_manager.specs.MarkLaws.{marks_count, swept_some, swept_none}
+
+-- the marks of a part that is cut to so many
+pub part_sum : (c : ℕ) (marks : List ℕ) → c ≤ length marks → sum_below (length (take c marks)) (λ k. get_or (take c marks) k 0) ≡ sum_below c (λ k. get_or marks k 0)
+part_sum c marks h =
+    rw (length-take-le c marks h) (sum_same c (λ k. get_or (take c marks) k 0) (λ k. get_or marks k 0) (λ k l. get_or-take c marks k 0 l))
+
+pub part_small : (c : ℕ) (marks : List ℕ) → ((k : ℕ) → get_or marks k 0 ≤ 1) → (k : ℕ) → get_or (take c marks) k 0 ≤ 1
+part_small c marks h k =
+    elim (dec_lt k c) [
+      | yes l ↦ rw (get_or-take c marks k 0 l) (h k)
+      | no g ↦ rw (get_or-eq_default (take c marks) 0 {n = k} (omega (arith, length-take c marks))) (omega arith)
+    ]
 
 -- a mark is 0 or 1
 pub marks_small : (c n : ℕ) (ss es marks : List ℕ) (total : ℕ) → Swept c n ss es marks (Some total) → (k : ℕ) → get_or marks k 0 ≤ 1

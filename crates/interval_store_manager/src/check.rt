@@ -36,29 +36,32 @@ fn fill_ones(marks: &mut [u8], from: usize, to: usize)
     marks[from..to].fill(1);
 }
 
-// How many indices below the capacity are marked, each by a 1: so sixteen bits have room, and eight marks are added up at once.
-fn count_ones(marks: &[u8], capacity: usize) -> usize
-    requires { (capacity ≤ 1024) × ((capacity ≤ length marks.now) × ((k : ℕ) → get_or marks.now k 0 ≤ 1)) }
-    ensures { result ≡ sum_below capacity (λ k. get_or marks.now k 0) }
+// How many indices are marked, each by a 1: so sixteen bits have room, and eight marks are added up at once.
+fn count_ones(marks: &[u8]) -> usize
+    requires { (length marks.now ≤ 1024) × ((k : ℕ) → get_or marks.now k 0 ≤ 1) }
+    ensures { result ≡ sum_below (length marks.now) (λ k. get_or marks.now k 0) }
 {
     let mut total: u16 = 0;
-    for i in 0..capacity {
-        total += marks[i] as u16;
+    // Kept: tried with `map` and `sum`; the proof did not close: `sum` asks of each run of the chain that it fit sixteen bits.
+    for mark in marks {
+        total += *mark as u16;
     }
     total as usize
 }
 
 // The same after a pass over n intervals whose sizes add up to total: fewer than two share no index, and none is counted.
-fn marked_number(marks: &[u8], capacity: usize, n: usize, total: usize) -> usize
-    requires { (capacity ≤ 1024) × ((capacity ≤ length marks.now) × ((((k : ℕ) → get_or marks.now k 0 ≤ 1)) × ((n < 2 → total ≡ sum_below capacity (λ k. get_or marks.now k 0))))) }
-    ensures { result ≡ sum_below capacity (λ k. get_or marks.now k 0) }
+fn marked_number(marks: &[u8], n: usize, total: usize) -> usize
+    requires { (length marks.now ≤ 1024) × ((((k : ℕ) → get_or marks.now k 0 ≤ 1)) × ((n < 2 → total ≡ sum_below (length marks.now) (λ k. get_or marks.now k 0)))) }
+    ensures { result ≡ sum_below (length marks.now) (λ k. get_or marks.now k 0) }
 {
     if n < 2 {
         return total;
     }
-    count_ones(marks, capacity)
+    count_ones(marks)
 }
 
+// Kept: that a capacity is at most 1,024 and its marks long enough are single comparisons: a record of them would be longer.
+// Kept: no plainer: the number of intervals stands beside the slices, as the definitions count the first n entries of two lists.
 // Marks every index that the first n intervals hold, and tells what their sizes add up to. It stops where an interval is out of
 // bounds or the sizes pass the capacity: then two intervals share an index, and without the stop the pass would not be linear.
 fn mark_intervals(
@@ -112,7 +115,7 @@ pub fn mark_free(
         return None;
     }
     let total = mark_intervals(capacity, n, starts, ends, marks)?;
-    let free = marked_number(marks, capacity, n, total);
+    let free = marked_number(&marks[..capacity], n, total);
     if free == total {
         return Some(free);
     }

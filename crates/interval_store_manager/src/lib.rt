@@ -16,6 +16,7 @@ use decide::{change_decision, release_decision};
 use terms::Refusal;
 
 // A stack of `last_in_use` intervals over the indices below `capacity`; the caller lends their starts and their ends.
+// Kept: manager, starts and ends make no struct: records hold the manager by value, and each call lends the slices as `&` or `&mut`.
 #[derive(Clone, Copy)]
 pub struct IntervalStoreManager {
     pub capacity: usize,
@@ -36,6 +37,7 @@ impl IntervalStoreManager {
     pub const LARGEST_CAPACITY: usize = 1024;
 
     // A manager all of whose indices are free.
+    #[tactic(auto, unfolding(crate::specs::Calls::new_spec))]
     pub fn new(
         size: usize,
         starts: &mut [u16],
@@ -49,12 +51,7 @@ impl IntervalStoreManager {
         if !lent_enough(size, starts, ends) {
             return Err(Refusal::IllFormed);
         }
-        starts[0] = 0;
-        ends[0] = (size - 1) as u16;
-        Ok(IntervalStoreManager {
-            capacity: size,
-            last_in_use: 1,
-        })
+        Ok(IntervalStoreManager::new_unchecked(size, starts, ends))
     }
 
     // Grows the capacity; a change to what it is or below it does nothing.

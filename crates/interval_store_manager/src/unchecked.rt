@@ -1,13 +1,27 @@
-// Get, release and change for callers that have checked: the same definitions, with what the check shows as `requires`.
+// New, get, release and change for callers that have checked: the same definitions, with what the check shows as `requires`.
 ghost use Rattle.std.specs.Prelude.{true, false, ◌≡◌, ◌<◌, ◌≤◌, length};
 ghost use Rattle.interval_store_manager.specs.Intervals.{is_free, free_number};
-ghost use Rattle.interval_store_manager.specs.WellFormed.{lent_enough, well_formed};
-ghost use Rattle.interval_store_manager.specs.Answers.{done, given, outcome};
-ghost use Rattle.interval_store_manager.specs.Calls.{changed, pushed, taken, released};
+ghost use Rattle.interval_store_manager.specs.WellFormed.{capacity_allowed, lent_enough, well_formed};
+ghost use Rattle.interval_store_manager.specs.Answers.{done, given, opened, opening, outcome};
+ghost use Rattle.interval_store_manager.specs.Calls.{new_spec, changed, pushed, taken, released};
 
 use crate::{Given, IntervalStoreManager};
 
+// Kept: no plainer: that a manager is well-formed is one equation in three contracts, beside other facts in each.
 impl IntervalStoreManager {
+    #[tactic(auto, using(crate::specs::Sound::allowed, crate::specs::Sound::lent), unfolding(crate::specs::Calls::new_spec))]
+    pub fn new_unchecked(size: usize, starts: &mut [u16], ends: &mut [u16]) -> IntervalStoreManager
+        requires { (capacity_allowed size ≡ true) × (lent_enough size starts.old ends.old ≡ true) }
+        ensures { opening (opened result) starts.new ends.new ≡ new_spec size starts.old ends.old }
+    {
+        starts[0] = 0;
+        ends[0] = (size - 1) as u16;
+        IntervalStoreManager {
+            capacity: size,
+            last_in_use: 1,
+        }
+    }
+
     // Pushes [start, end] on the stack, at another capacity.
     #[tactic(auto, unfolding(crate::specs::Calls::pushed))]
     fn push(

@@ -1,5 +1,5 @@
 -- Laws of the whole check: what each of its tests says of well-formedness.
-use Rattle.std.specs.Prelude.{ℕ, ◌≤◌, List, Bool, true, false, ◌≡◌, Option, Some, None, cond, refl, length}
+use Rattle.std.specs.Prelude.{ℕ, ◌≤◌, List, Bool, true, false, ◌≡◌, Some, None, cond, refl, length}
 use Rattle.std.proofs.Common.{arith, sym, ◌∙◌, ap}
 use Rattle.std.proofs.lemmas.Option.{cond_some, none-some}
 use Rattle.labels.specs.declared.LabelsFree.{LabelsFree}

@@ -7,6 +7,8 @@ ghost use Rattle.label_check.specs.LabelPass.{label_bounded, ShareReady, Shared}
 
 use labels::{LabelTables, class_of};
 
+// Kept: no plainer: with a part in place of the capacity a contract has one clause less, and each answer of its caller a law of `take` more.
+
 // Whether the mark fits the count and, of a live label, the code is one of the table's and the slot is below the capacity.
 // Without a branch, so that the pass over the labels is compiled to vector instructions.
 fn label_bounded(capacity: u16, code: u8, slot: u16, count: u16, mark: u8) -> bool
@@ -31,6 +33,7 @@ fn labels_bounded(
 {
     let limit = capacity as u16;
     let mut ok = true;
+    // Kept: vector code; `all` over the four parts, zipped, takes 1,700 ns for 277 at 1,024 labels; a fold is no plainer: the same test in a closure, and an answer for the invariant's line.
     for i in 0..capacity {
         let well = label_bounded(
             limit,
@@ -78,6 +81,7 @@ fn labels_shared(
     ensures { Shared classes.now capacity labels.now label_attributes.now label_count.now attributes.now sums.new result }
 {
     let mut ok = true;
+    // Kept: each turn adds to the sums; an `all` whose closure writes them is no plainer.
     for i in 0..capacity {
         let well = share_label(
             classes,

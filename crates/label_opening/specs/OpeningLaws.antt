@@ -1,7 +1,8 @@
 -- Laws of opening: the managers that new makes are those of the opened tables.
-use Rattle.std.specs.Prelude.{ℕ, ◌-◌, ◌≤◌, List, ◌≡◌, length, set}
+use Rattle.std.specs.Prelude.{ℕ, ◌-◌, ◌≤◌, List, true, ◌≡◌, length, set}
 use Rattle.std.proofs.Common.{arith, ◌∙◌, ap}
 use Rattle.interval_store_manager.specs.declared.IntervalStoreManager.{IntervalStoreManager}
+use Rattle.interval_store_manager.specs.WellFormed.{capacity_allowed, lent_enough}
 use Rattle.interval_store_manager.specs.Sound.{allowed_make, lent_make}
 use Rattle.interval_store_manager.specs.Answers.{Opening, opened, refused, opening}
 use Rattle.interval_store_manager.specs.Calls.{manager, new_spec}
@@ -18,6 +19,10 @@ pub record LabelsOpenable (capacity : ℕ) (labels slots counts starts ends clas
   pub counts_lent : capacity ≤ length counts
   pub classes_lent : capacity ≤ length classes
   pub slot_counts_lent : capacity ≤ length slot_counts
+
+-- what may be opened is what new_unchecked asks for
+pub may_open : (c : ℕ) (ss es : List ℕ) → Openable c ss es → (capacity_allowed c ≡ true) × (lent_enough c ss es ≡ true)
+may_open c ss es o = (allowed_make c o.least o.most, lent_make c ss es o.starts_lent o.ends_lent)
 
 -- new accepts what may be opened
 accepted : (c : ℕ) (ss es : List ℕ) → Openable c ss es → new_spec c ss es ≡ opening (opened (manager c 1)) (set ss 0 0) (set es 0 (c - 1))

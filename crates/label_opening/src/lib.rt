@@ -1,56 +1,40 @@
 // Opening the label half: the first entries of each table made 0, and the managers as new makes them.
-// Kept: the slices are parameters, as the exported opening has them: a struct of `&mut` slices comes back from a call under names of the
-// checker's own.
 #![tactic(auto)]
 
 ghost use Rattle.std.specs.Prelude.{◌≡◌};
-ghost use Rattle.interval_store_manager.specs.Answers.{opened, opening};
-ghost use Rattle.interval_store_manager.specs.Calls.{new_spec};
-ghost use Rattle.labels.specs.Opening.{labels_opened, Openable};
+ghost use Rattle.labels.specs.Opening.{labels_opened};
 ghost use Rattle.label_opening.specs.OpeningLaws.{LabelsOpenable};
-ghost use Rattle.labels.specs.Forms.{held};
+ghost use Rattle.labels.specs.Lent.{SameWriting, labels_writing};
 
 use interval_store_manager::IntervalStoreManager;
-use labels::LabelManagers;
-
-// A manager of a capacity that is allowed, over slices that are long enough: new does not refuse it.
-fn open_manager(capacity: usize, starts: &mut [u16], ends: &mut [u16]) -> IntervalStoreManager
-    requires { Openable capacity starts.old ends.old }
-    ensures { opening (opened result) starts.new ends.new ≡ new_spec capacity starts.old ends.old }
-{
-    let answer = IntervalStoreManager::new(capacity, starts, ends);
-    match answer {
-        Ok(m) => m,
-        Err(_) => IntervalStoreManager {
-            capacity,
-            last_in_use: 0,
-        },
-    }
-}
+use labels::{LabelManagers, LabelWriting};
 
 // The label half of a fresh store.
-pub fn open_labels(
-    capacity: usize,
-    labels: &mut [u8],
-    label_attributes: &mut [u16],
-    label_count: &mut [u16],
-    label_starts: &mut [u16],
-    label_ends: &mut [u16],
-    attributes: &mut [u8],
-    attribute_count: &mut [u32],
-    attribute_starts: &mut [u16],
-    attribute_ends: &mut [u16],
-) -> LabelManagers
-    requires { LabelsOpenable capacity labels.old label_attributes.old label_count.old label_starts.old label_ends.old attributes.old attribute_count.old attribute_starts.old attribute_ends.old }
-    ensures { held result labels.new label_attributes.new label_count.new label_starts.new label_ends.new attributes.new attribute_count.new attribute_starts.new attribute_ends.new ≡ labels_opened capacity (held result labels.old label_attributes.old label_count.old label_starts.old label_ends.old attributes.old attribute_count.old attribute_starts.old attribute_ends.old) }
+pub fn open_labels(capacity: usize, labels: &mut LabelWriting) -> LabelManagers
+    requires { LabelsOpenable capacity labels.old.labels.now labels.old.label_attributes.now labels.old.label_count.now labels.old.label_starts.now labels.old.label_ends.now labels.old.attributes.now labels.old.attribute_count.now labels.old.attribute_starts.now labels.old.attribute_ends.now }
+    ensures same { SameWriting labels.old labels.new }
+    ensures opened { labels_writing result labels.new ≡ labels_opened capacity (labels_writing result labels.old) }
 {
-    labels[..capacity].fill(0);
-    label_attributes[..capacity].fill(0);
-    label_count[..capacity].fill(0);
-    let label_manager = open_manager(capacity, label_starts, label_ends);
-    attributes[..capacity].fill(0);
-    attribute_count[..capacity].fill(0);
-    let attribute_manager = open_manager(capacity, attribute_starts, attribute_ends);
+    let codes = &mut *labels.labels;
+    codes[..capacity].fill(0);
+    let slots = &mut *labels.label_attributes;
+    slots[..capacity].fill(0);
+    let counts = &mut *labels.label_count;
+    counts[..capacity].fill(0);
+    let label_manager = IntervalStoreManager::new_unchecked(
+        capacity,
+        labels.label_starts,
+        labels.label_ends,
+    );
+    let classes = &mut *labels.attributes;
+    classes[..capacity].fill(0);
+    let slot_counts = &mut *labels.attribute_count;
+    slot_counts[..capacity].fill(0);
+    let attribute_manager = IntervalStoreManager::new_unchecked(
+        capacity,
+        labels.attribute_starts,
+        labels.attribute_ends,
+    );
     LabelManagers {
         label_manager,
         attribute_manager,

@@ -1,11 +1,11 @@
 -- What a live label gives the functions that count it.
-use Rattle.std.specs.Prelude.{ℕ, ◌≤◌, ◌<◌, List, length}
+use Rattle.std.specs.Prelude.{ℕ, ◌<◌, List, length}
 use Rattle.std.proofs.Common.{arith}
 use Rattle.labels.specs.Counted.{Counted, count_at}
 use Rattle.labels.specs.CountedLaws.{WellCounted, used_not_free}
 use Rattle.labels.specs.Labels.{Labels, slot_at, slot_count_at}
 use Rattle.labels.specs.Sound.{Sound, sound}
-use Rattle.labels.specs.SlotLaws.{slot_counts, slot_count_most}
+use Rattle.labels.specs.SlotLaws.{slot_counts}
 use Rattle.labels.specs.Forms.{Releasable, LiveLabel}
 
 releasable : (c : ℕ) (t : Counted) → WellCounted c t → (i : ℕ) → i < c → 0 < count_at t i → Releasable t.manager t.starts t.ends i
@@ -26,9 +26,6 @@ module _ {classes : List ℕ} {c : ℕ} {l : Labels} {i : ℕ} (r : LiveLabel cl
 
   pub slot_live : 0 < slot_count_at l (slot_at l i)
   slot_live = omega (arith, slot_counts classes c l w i r.below r.live, r.live)
-
-  pub slot_room : slot_count_at l (slot_at l i) ≤ 67107840
-  slot_room = slot_count_most classes c l w (slot_at l i) below
 
   pub index_releasable : Releasable l.label_table.manager l.label_table.starts l.label_table.ends i
   index_releasable = releasable c l.label_table w.label_table_lem i r.below r.live

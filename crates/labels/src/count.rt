@@ -1,32 +1,31 @@
 // One count more or less of a label and of its slot, for callers that have checked. At 0 the index is released; code, slot
 // and class are left standing.
-ghost use Rattle.std.specs.Prelude.{◌≡◌, ◌<◌, get_or};
+ghost use Rattle.std.specs.Prelude.{◌≡◌, get_or};
 ghost use Rattle.interval_store_manager.specs.Answers.{done, outcome};
 ghost use Rattle.labels.specs.Counted.{released_at_one};
-ghost use Rattle.labels.specs.Labels.{label_raised, label_lowered};
-ghost use Rattle.labels.specs.Forms.{Releasable, LiveLabel};
-ghost use Rattle.labels.specs.Lent.{labels_raising, labels_lowering, SameRaising, SameLowering};
+ghost use Rattle.labels.specs.Labels.{label_lowered};
+ghost use Rattle.labels.specs.Forms.{LabelRaisable, LiveLabel, Releasable, one_more};
+ghost use Rattle.labels.specs.Lent.{SameLowering, labels_lowering};
 
 use crate::LabelManagers;
-use crate::tables::{LabelLowering, LabelRaising};
+use crate::to_lower::LabelLowering;
 use interval_store_manager::IntervalStoreManager;
 use terms::LabelIndex;
 
 pub fn inc_label(
-    classes: &[u8; 24],
-    capacity: usize,
-    managers: LabelManagers,
-    tables: &mut LabelRaising,
+    label_attributes: &[u16],
+    label_count: &mut [u16],
+    attribute_count: &mut [u32],
     label: LabelIndex,
 )
-    requires { LiveLabel classes.now capacity (labels_raising managers tables.old) label.0 × (get_or tables.old.label_count.now label.0 0 < 65535) }
-    ensures same { SameRaising tables.old tables.new }
-    ensures raised { labels_raising managers tables.new ≡ label_raised (labels_raising managers tables.old) label.0 }
+    requires { LabelRaisable label_attributes.now label_count.old attribute_count.old label.0 }
+    ensures labels { label_count.new ≡ one_more label_count.old label.0 }
+    ensures slots { attribute_count.new ≡ one_more attribute_count.old (get_or label_attributes.now label.0 0) }
 {
     let i = label.0;
-    let slot = tables.label_attributes[i] as usize;
-    tables.label_count[i] += 1;
-    tables.attribute_count[slot] += 1;
+    let slot = label_attributes[i] as usize;
+    label_count[i] += 1;
+    attribute_count[slot] += 1;
 }
 
 // Releases an index whose count was 1 before it was lowered.

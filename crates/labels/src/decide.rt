@@ -4,14 +4,15 @@ ghost use Rattle.interval_store_manager.specs.Calls.{decision_means};
 ghost use Rattle.labels.specs.Decisions.{in_use, code_decided, room_decided, inc_decided, dec_decided};
 
 use crate::classes::LARGEST_CODE;
-use crate::entry::entry;
+use crate::entries::entry;
 use interval_store_manager::IntervalStoreManager;
 use terms::{LabelIndex, NONE, Refusal};
 
 // Document 01: 'inc of a point or label count at 65,535'.
-// Kept: the point's largest count stands in `store_counts`, in the type of its own comparison; they are two bounds of one number.
-const LARGEST_COUNT: u16 = 65535;
+pub const LARGEST_COUNT: u16 = 65535;
 
+// Kept: flag, capacity and counts are three parameters, here and in the readings: each caller would put a struct of them together for
+// one call.
 #[tactic(auto, unfolding(crate::specs::Decisions::in_use))]
 pub fn label_in_use(
     store_labels: bool,

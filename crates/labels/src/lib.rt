@@ -6,18 +6,29 @@
 mod classes;
 mod count;
 mod decide;
-mod entry;
+mod entries;
 mod read;
 mod tables;
 mod take;
+mod to_lower;
+mod to_raise;
+mod to_take;
+mod to_write;
 
 pub use classes::{LARGEST_CODE, class_of};
 pub use count::{dec_label, inc_label};
-pub use decide::{code_decision, dec_decision, inc_decision, label_in_use, room_decision};
+pub use decide::{
+    LARGEST_COUNT, code_decision, dec_decision, inc_decision, label_in_use, room_decision,
+};
+pub use entries::entry;
 use interval_store_manager::IntervalStoreManager;
 pub use read::{attribute, attribute_vec, label};
-pub use tables::{LabelLowering, LabelRaising, LabelTables, LabelTaking};
+pub use tables::LabelTables;
 pub use take::take_label;
+pub use to_lower::LabelLowering;
+pub use to_raise::LabelRaising;
+pub use to_take::LabelTaking;
+pub use to_write::LabelWriting;
 
 // The managers of the label indices and of the attribute slots.
 #[derive(Clone, Copy)]

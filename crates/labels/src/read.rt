@@ -3,7 +3,7 @@ ghost use Rattle.std.specs.Prelude.{◌≡◌, ◌<◌, length, get_or, set, rep
 ghost use Rattle.labels.specs.Readings.{label_read_means, vector_read_means, zero_float, one_float, label_spec, attribute_spec, vector_outcome, attribute_vec_spec};
 
 use crate::decide::label_in_use;
-use crate::entry::entry;
+use crate::entries::entry;
 use terms::{LabelIndex, Refusal};
 
 // Document 01: 'ten floats'.

@@ -7,12 +7,13 @@ ghost use Rattle.labels.specs.Forms.{SlotReady, LabelReady, slot_outcome, label_
 ghost use Rattle.labels.specs.Lent.{labels_taking, SameTaking};
 
 use crate::classes::class_of;
-use crate::tables::LabelTaking;
+use crate::to_take::LabelTaking;
 use crate::{LabelManagers, LabelsFree};
 use interval_store_manager::IntervalStoreManager;
 use terms::LabelIndex;
 
 // The live slot that holds the class.
+// Kept: the capacity stands beside the tables, as the definition searches the first entries of two lent lists.
 fn class_slot(
     capacity: usize,
     attributes: &[u8],
@@ -22,14 +23,10 @@ fn class_slot(
     requires { (capacity ≤ length attributes.now) × (capacity ≤ length attribute_count.now) }
     ensures { result ≡ live_slot capacity attributes.now attribute_count.now class }
 {
-    for i in 0..capacity {
-        if 0 < attribute_count[i] {
-            if attributes[i] == class {
-                return Some(i);
-            }
-        }
-    }
-    None
+    attributes[..capacity]
+        .iter()
+        .zip(&attribute_count[..capacity])
+        .position(|(held, count)| 0 < *count && *held == class)
 }
 
 // A slot for the class, with one count more.

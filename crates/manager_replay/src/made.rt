@@ -8,6 +8,7 @@ use terms::Refusal;
 // start and the end of the stack's top. What there is none of is 0.
 #[derive(Clone, Copy, PartialEq, Eq)]
 pub struct Seen {
+    // Kept: the record holds this number, so a Result would be turned into it for each line.
     pub value: usize,
     pub answer: usize,
     pub in_use: usize,

@@ -21,11 +21,13 @@ fn put_point(text: &mut [u8], at: usize, index: usize, count: usize, place: usiz
     decimal::put_line(text, at, COLUMNS, &row);
 }
 
+// Kept: no plainer: with the counts' part in place of the table's length a contract has one clause less, and its caller's proof a law of `take` more.
 fn write_lines(table_length: usize, reference_count: &[u16], location: &[u16], text: &mut [u8])
     requires { ((table_length ≤ length reference_count.now) × (table_length ≤ length location.now)) × (length (page_text table_length reference_count.now location.now) ≤ length text.old) }
     ensures { text.new ≡ put 0 (page_text table_length reference_count.now location.now) text.old }
 {
     let mut end = 0;
+    // Kept: a line is for a live index alone, so its place follows from no index; the lines' chunks would have to be asked for one by one.
     for i in 0..table_length {
         let count = reference_count[i] as usize;
         if 0 < count {

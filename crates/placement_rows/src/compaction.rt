@@ -11,6 +11,7 @@ use super::one_pass::scan_places;
 use super::shape::Shape;
 use terms::FloatBits;
 
+// Kept: elements, places, shape and free start stand side by side in five functions: two callers would each put a struct together for one call.
 // `index_at` has an entry for every place that a point can have.
 fn compact_with(
     index_at: &mut [u16],
@@ -40,6 +41,7 @@ fn compact_sized<const PLACES: usize>(
     compact_with(&mut index_at, store, location, shape, start_free_region)
 }
 
+// Kept: with no heap a table's size is fixed where it is compiled, so each of the four sizes has a call of its own.
 fn compact_whole(
     store: &mut [FloatBits],
     location: &mut [u16],
@@ -63,6 +65,7 @@ fn compact_whole(
 }
 
 // Answers the new free start. Only the first `table_length` entries of the table are points.
+// Kept: the length stands beside the table, since the contract says of what lies past it that it is left as it is.
 #[tactic(auto, unfolding(crate::specs::Compactable::compacted_table))]
 pub fn compact(
     store: &mut [FloatBits],

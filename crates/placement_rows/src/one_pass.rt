@@ -12,7 +12,8 @@ use super::shape::Shape;
 use super::words::copy_down;
 use terms::FloatBits;
 
-// The write position, and the end of what was read. Both divided by base are carried along, so that no point asks for a division.
+// The write position, and the end of what was read.
+// Kept: both divided by base are carried along; with a division at each point compaction took 780 ns for 643 at 256 points (PERFORMANCE.md).
 #[derive(Clone, Copy)]
 pub struct Progress {
     pub free: usize,

@@ -5,6 +5,7 @@ ghost use Rattle.placement.specs.Row.{row_to_lay, moved_window};
 use super::words::{copy_down, copy_from};
 use terms::FloatBits;
 
+// Kept: window, point and flag stand side by side, here and in `head` and `row_joins`: each caller would put a struct together for one call.
 // The window, moved already, or the caller's own point.
 #[tactic(auto, unfolding(placement::specs::Row::row_to_lay))]
 pub fn row<'a>(

@@ -9,6 +9,7 @@ pub struct Shape {
     pub rotation: bool,
 }
 
+// Kept: a store's calls give three fields of the record each: no crate below them knows both this shape and the record.
 impl Shape {
     // Base is how many words each of the shingle's points has.
     pub fn new(dimensions: usize, shingle_size: usize, rotation: bool) -> Self

@@ -9,10 +9,9 @@ use Rattle.store_definitions.specs.declared.Store.{Store}
 use Rattle.store_definitions.specs.Bounds.{bounds_hold}
 use Rattle.store_definitions.specs.WellFormed.{well_formed}
 use Rattle.hold_definitions.specs.declared.Hold.{Hold}
-use Rattle.hold_definitions.specs.Opening.{no_hold}
 use Rattle.hold_definitions.specs.Memory.{HoldMemory, point_hold}
 use Rattle.hold_definitions.specs.WellFormed.{hold_well_formed}
-use Rattle.point_store_c.specs.Records.{store_words, store_out, legal_record, store_in, recorded}
+use Rattle.point_store_c.specs.Records.{store_words, legal_record, store_in}
 use Rattle.point_store_c.proofs.RecordLaws.{Sized, length_words, tail_out_lem, tail_word, written_in, record_kept, illegal_ill_formed}
 use Rattle.point_store_c.specs.HoldRecords.{hold_words, hold_out, tail_out, hold_in, hold_recorded}
 
@@ -38,30 +37,9 @@ module _ (h : Hold) (z : Sized h.store) (rest : List ℕ) where
 pub hold_in_out : (words : List ℕ) (h : Hold) → 41 ≤ length words → Sized h.store → hold_in (hold_out words h) ≡ h
 hold_in_out words h l z = ap hold_in (hold_out_words words h l z.codes) ∙ written_hold h z (drop 41 words)
 
-module _ (words : List ℕ) where
-  -- what the code's test shows
-  module _ (l : length words < 41) where
-    pub short_read : no_hold ≡ hold_in words
-    unfolding hold_in
-    short_read = rw (lt-leb 41 (length words) l)
-
-    pub short_recorded : (h : Hold) → words ≡ hold_recorded words h
-    unfolding hold_recorded
-    short_recorded h = rw (lt-leb 41 (length words) l)
-
-  module _ (l : 41 ≤ length words) where
-    pub long_read : (s : Store) → s ≡ store_in words → ◌≡◌ {A = Hold} (record { store = s; width = get_or words 39 0; held = get_or words 40 0 }) (hold_in words)
-    unfolding hold_in
-    long_read s e = rw (le-leb 41 (length words) l, e)
-
-    pub long_recorded : (h : Hold) (words' : List ℕ) → words' ≡ recorded words h.store → tail_out words' h.width h.held ≡ hold_recorded words h
-    unfolding hold_recorded
-    long_recorded h words' e = rw (le-leb 41 (length words) l, e)
-
--- the words of the store, then the two more
-pub two_more : (words words' : List ℕ) (h : Hold) → words' ≡ store_out words h.store → tail_out words' h.width h.held ≡ hold_out words h
-unfolding hold_out
-two_more words words' h e = rw e
+pub long_read : (words : List ℕ) → 41 ≤ length words → (s : Store) → s ≡ store_in words → ◌≡◌ {A = Hold} (record { store = s; width = get_or words 39 0; held = get_or words 40 0 }) (hold_in words)
+unfolding hold_in
+long_read words l s e = rw (le-leb 41 (length words) l, e)
 
 -- a call that leaves the hold leaves the record
 pub hold_record_kept : (words : List ℕ) → hold_recorded words (hold_in words) ≡ words

@@ -1,13 +1,11 @@
 -- A store comes back from its record, a record from its store, and an illegal record holds no store.
-use Rattle.std.specs.Prelude.{ℕ, zero, suc, ◌+◌, ◌≤◌, ◌<◌, Bool, true, false, cond, ◌&&◌, List, [], ◌∷◌, ◌++◌, ◌≡◌, leb, ltb, eqb, get_or, take}
+use Rattle.std.specs.Prelude.{ℕ, zero, suc, ◌+◌, ◌≤◌, ◌<◌, Bool, true, false, cond, ◌&&◌, List, ◌++◌, ◌≡◌, leb, ltb, eqb, get_or, take}
 use native.Mathlib.Omega.{arith}
 use Rattle.std.proofs.Math.Path.{refl, ap}
 use Rattle.std.proofs.Common.{sym, ◌∙◌, take_at, get_or-append-add, le-leb, lt-ltb, leb-true, ltb-true}
 use Rattle.std.proofs.Math.ListN.{length, drop, length-append, get_or-append}
 use Rattle.std.proofs.Math.Seq.{sets, sets-eq, length-sets}
 use Rattle.std.proofs.lemmas.List.{set-get_or}
-use Rattle.std.proofs.lemmas.Bool.{lt-leb}
-use mir.Val.{bool_byte}
 use Rattle.terms.specs.Below.{one, both}
 use Rattle.class_words.specs.Words.{classes_legal}
 use Rattle.class_words.specs.WordsLaws.{small_make, read_written, sets_after}
@@ -16,7 +14,6 @@ use Rattle.store_definitions.specs.Memory.{Memory, point_store}
 use Rattle.store_definitions.specs.Bounds.{bounds_hold}
 use Rattle.store_definitions.specs.Opening.{no_record}
 use Rattle.store_definitions.specs.WellFormed.{well_formed}
-use Rattle.point_store_c.specs.ExportedLaws.{cast_one}
 use Rattle.point_store_c.specs.Records.{head_words, store_words, store_out, legal_record, read_with, store_read, store_in, recorded, recorded_whole}
 
 -- a store whose sequence number and classes have their sizes, as every store of the code's has
@@ -53,20 +50,6 @@ module _ (s : Store) (k : length s.classes ≡ 24) where
       ap (λ (m : ℕ). get_or (store_words s ++ tail) (m + n) 0) (sym (length_words s k))
       ∙ get_or-append-add (store_words s) tail n 0
 
--- the words before the classes as the code stores them, a flag by its cast
-abbrev pub cast_words : Store → List ℕ
-cast_words s =
-    s.dimensions ∷ s.shingle_size ∷ s.capacity
-    ∷ bool_byte s.internal_shingling ∷ bool_byte s.internal_rotation ∷ bool_byte s.store_labels
-    ∷ s.store_length ∷ s.start_free_region ∷ s.next_sequence_index
-    ∷ s.index_manager.capacity ∷ s.index_manager.last_in_use
-    ∷ s.label_manager.capacity ∷ s.label_manager.last_in_use
-    ∷ s.attribute_manager.capacity ∷ s.attribute_manager.last_in_use
-    ∷ []
-
-pub cast_out : (words : List ℕ) (s : Store) → sets words 0 (cast_words s) ≡ sets words 0 (head_words s)
-cast_out words s = rw (cast_one s.internal_shingling, cast_one s.internal_rotation, cast_one s.store_labels)
-
 -- the words before the classes, then the classes
 pub classes_after : (words words' : List ℕ) (s : Store) → words' ≡ sets words 0 (head_words s) → sets words' 15 s.classes ≡ store_out words s
 unfolding store_out
@@ -96,15 +79,6 @@ written_in s rest z = rw (written_legal s rest z) (written_read s rest z.codes)
 -- a store written to a record that is long enough is read again
 pub in_out : (words : List ℕ) (s : Store) → 39 ≤ length words → Sized s → store_in (store_out words s) ≡ s
 in_out words s l z = ap store_in (out_words words s l z.codes) ∙ written_in s (drop 39 words) z
-
--- what the code's tests show
-pub short_illegal : (words : List ℕ) → length words < 39 → false ≡ legal_record words
-unfolding legal_record
-short_illegal words l = rw (lt-leb 39 (length words) l)
-
-pub long_legal : (words : List ℕ) (b : Bool) → 39 ≤ length words → b ≡ classes_legal 15 words → (ltb (get_or words 3 0) 2 && (ltb (get_or words 4 0) 2 && (ltb (get_or words 5 0) 2 && (ltb (get_or words 8 0) 4294967296 && b)))) ≡ legal_record words
-unfolding legal_record
-long_legal words b l e = rw (le-leb 39 (length words) l, e)
 
 pub record Legal (words : List ℕ) : Type 0 where
   pub long : 39 ≤ length words
@@ -143,13 +117,6 @@ module _ (words : List ℕ) where
   pub head_recorded : (s : Store) → (leb 39 (length words) && ltb 0 s.capacity) ≡ true → sets words 0 (head_words s) ≡ recorded words s
   unfolding recorded
   head_recorded s e = rw e
-
-  pub long_enough : (s : Store) → (leb 39 (length words) && ltb 0 s.capacity) ≡ true → 39 ≤ length words
-  long_enough s e = leb-true 39 (length words) (both (leb 39 (length words)) (ltb 0 s.capacity) e).0
-
-  pub left_recorded : (s : Store) → (leb 39 (length words) && ltb 0 s.capacity) ≡ false → words ≡ recorded words s
-  unfolding recorded
-  left_recorded s e = rw e
 
 flag_word : (n : ℕ) → n < 2 → one (eqb n 1) ≡ n
 flag_word zero l = refl

@@ -1,16 +1,19 @@
 -- From what a call of the manager ensures to what the exported call owes, for any of the definitions f.
-use Rattle.std.specs.Prelude.{ℕ, ◌≤◌, ◌<◌, List, [], ◌∷◌, Bool, true, false, cond, ◌≡◌, refl, length, get_or, ltb}
+use Rattle.std.specs.Prelude.{ℕ, ◌≤◌, ◌<◌, List, [], ◌∷◌, Bool, true, false, cond, ◌≡◌, refl, Result, Ok, Err, length, get_or, ltb}
 use Rattle.std.proofs.Common.{arith, sym, ◌∙◌, le-leb}
 use Rattle.std.proofs.Math.Decide.{dec_lt}
 use Rattle.std.proofs.Math.Path.{ap}
 use Rattle.std.proofs.lemmas.Bool.{lt-leb}
 use mir.Val.{bool_byte}
+use Rattle.terms.specs.declared.Refusal.{Refusal}
 use Rattle.terms.specs.Below.{one}
 use Rattle.interval_store_manager.specs.declared.IntervalStoreManager.{IntervalStoreManager}
 use Rattle.interval_store_manager.specs.WellFormed.{capacity_allowed, well_formed}
-use Rattle.interval_store_manager.specs.Answers.{Answer, opened, done, given, holds, says, refused, opening, Outcome, outcome}
+use Rattle.interval_store_manager.specs.Answers.{Answer, opened, done, given, holds, says, refused, changed_means, number_means, emptiness_means, opening, Outcome, outcome}
 use Rattle.interval_store_manager.specs.Calls.{manager, refuse, carried_out, changed, new_spec, change_decided, change_spec, get_decided, get_spec, release_decided, release_spec}
-use Rattle.point_store_c.specs.Exported.{manager_in, manager_out, opened_as, exported, exported_call, exported_opening, read, exported_reading}
+use Rattle.store_definitions.specs.Answers.{number_means as store_number, equality_means as store_equality}
+use Rattle.point_store_c.specs.Exported.{manager_in, manager_out, returned, recorded, opened_as, exported, exported_call, exported_opening, Read, read, exported_reading}
+use Rattle.point_store_c.specs.ExportedStore.{Read as StoreRead, read as store_read, exported_reading as store_reading}
 
 pub manager_long : (words : List ℕ) → 2 ≤ length words → manager (get_or words 0 0) (get_or words 1 0) ≡ manager_in words
 unfolding manager_in
@@ -60,6 +63,15 @@ accepted_long f words m after starts ends a b r p e q i =
           absurd (let y : ◌≡◌ {A = ℕ} 0 1 = cc in omega arith)
       | no g ↦ omega arith
     ]
+
+-- a call that answers no value, of which the code's answer is r
+pub changed_carried : (words : List ℕ) (r : Result Unit Refusal) (m : IntervalStoreManager) (starts ends : List ℕ) → exported_call words [] (outcome (changed_means r) m starts ends) ≡ exported (returned (changed_means r)) (recorded words (changed_means r) m) [] starts ends
+unfolding exported_call
+changed_carried words (Ok _) m starts ends = refl
+changed_carried words (Err why) m starts ends = refl
+
+pub changed_long : (f : IntervalStoreManager → Outcome) (words : List ℕ) (m after : IntervalStoreManager) (starts ends : List ℕ) (r : Result Unit Refusal) → m ≡ manager_in words → outcome (changed_means r) after starts ends ≡ f m → Refuses f → changed_means r ≡ done → 2 ≤ length words
+changed_long f words m after starts ends r p e k q = accepted_long f words m after starts ends (changed_means r) done k p e q refl
 
 none_formed : (starts ends : List ℕ) → well_formed (manager 0 0) starts ends ≡ false
 unfolding well_formed capacity_allowed
@@ -119,3 +131,17 @@ module _ (f : IntervalStoreManager → Answer) (words : List ℕ) (m : IntervalS
   pub reading_says : (b : Bool) → a ≡ says b → read 0 (bool_byte b ∷ []) ≡ exported_reading xs (f (manager_in words))
   unfolding exported_reading
   reading_says b e = rw (cast_one b) (ap (exported_reading xs) (said (says b) e))
+
+-- a reading whose number is lent as a store's is
+as_read : StoreRead → Read
+as_read r = read r.value r.numbers
+
+pub number_lent : (r : Result ℕ Refusal) (x n y : ℕ) → store_read n (y ∷ []) ≡ store_reading (x ∷ []) (store_number r) → read n (y ∷ []) ≡ exported_reading (x ∷ []) (number_means r)
+unfolding store_reading as_read exported_reading
+number_lent (Ok k) x n y e = ap as_read e
+number_lent (Err why) x n y e = ap as_read e
+
+pub truth_lent : (r : Result Bool Refusal) (x n y : ℕ) → store_read n (y ∷ []) ≡ store_reading (x ∷ []) (store_equality r) → read n (y ∷ []) ≡ exported_reading (x ∷ []) (emptiness_means r)
+unfolding store_reading as_read exported_reading
+truth_lent (Ok b) x n y e = ap as_read e
+truth_lent (Err why) x n y e = ap as_read e

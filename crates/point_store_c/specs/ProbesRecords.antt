@@ -1,5 +1,6 @@
 -- A product's record as a C caller lends it: the words of its store, then its eight tallies.
 use Rattle.std.specs.Prelude.{ℕ, Bool, cond, ◌&&◌, List, [], ◌∷◌, leb, ltb, length, get_or}
+use Rattle.std.specs.List.{list_all}
 use Rattle.std.proofs.lemmas.List.Edits.{sets}
 use Rattle.probes_definitions.specs.declared.Probes.{Probes}
 use Rattle.probes_definitions.specs.Opening.{no_probes}
@@ -17,15 +18,15 @@ tallies_out words ts = sets words 39 (tally_words ts)
 unfoldable pub probes_out : List ℕ → Probes → List ℕ
 probes_out words p = tallies_out (store_out words p.store) p.tallies
 
+abbrev pub tallies_read : List ℕ → List ℕ
+tallies_read words = get_or words 39 0 ∷ get_or words 40 0 ∷ get_or words 41 0 ∷ get_or words 42 0 ∷ get_or words 43 0 ∷ get_or words 44 0 ∷ get_or words 45 0 ∷ get_or words 46 0 ∷ []
+
 -- each tally has 32 bits
 unfoldable pub legal_tallies : List ℕ → Bool
-legal_tallies words = ltb (get_or words 39 0) 4294967296 && (ltb (get_or words 40 0) 4294967296 && (ltb (get_or words 41 0) 4294967296 && (ltb (get_or words 42 0) 4294967296 && (ltb (get_or words 43 0) 4294967296 && (ltb (get_or words 44 0) 4294967296 && (ltb (get_or words 45 0) 4294967296 && (ltb (get_or words 46 0) 4294967296)))))))
+legal_tallies words = list_all (λ word. ltb word 4294967296) (tallies_read words)
 
 unfoldable pub legal_probes : List ℕ → Bool
 legal_probes words = leb 47 (length words) && legal_tallies words
-
-abbrev pub tallies_read : List ℕ → List ℕ
-tallies_read words = get_or words 39 0 ∷ get_or words 40 0 ∷ get_or words 41 0 ∷ get_or words 42 0 ∷ get_or words 43 0 ∷ get_or words 44 0 ∷ get_or words 45 0 ∷ get_or words 46 0 ∷ []
 
 -- the product that a record holds; an illegal one is read as the record of zeros
 unfoldable pub probes_in : List ℕ → Probes

@@ -1,7 +1,7 @@
 // Answers of the store's calls as return values and lent numbers.
 ghost use Rattle.std.specs.Prelude.{◌≡◌, [], ◌∷◌};
 ghost use Rattle.placement.specs.Laying.{place_of};
-ghost use Rattle.store_definitions.specs.Answers.{added_means, adjusted_means, done_means, equality_means, number_means};
+ghost use Rattle.store_definitions.specs.Answers.{added_means, adjusted_means, done_means, number_means};
 ghost use Rattle.point_store_c.specs.ExportedStore.{joined_number, read, exported_reading};
 
 use placement::Laid;
@@ -32,19 +32,6 @@ pub fn number_out(answer: Result<usize, Refusal>, number: &mut u64) -> u64
 }
 
 #[tactic(auto, unfolding(crate::specs::ExportedStore::exported_reading))]
-pub fn equality_out(answer: Result<bool, Refusal>, equal: &mut u64) -> u64
-    ensures { read result (equal.new ∷ []) ≡ exported_reading (equal.old ∷ []) (equality_means answer) }
-{
-    match answer {
-        Err(why) => u64::from(why),
-        Ok(b) => {
-            *equal = b as u64;
-            0
-        }
-    }
-}
-
-#[tactic(auto, unfolding(crate::specs::ExportedStore::exported_reading))]
 pub fn adjusted_out(answer: Result<(), AdjustRefusal>, pairs_before: &mut u64) -> u64
     ensures { read result (pairs_before.new ∷ []) ≡ exported_reading (pairs_before.old ∷ []) (adjusted_means answer) }
 {
@@ -61,16 +48,11 @@ pub fn adjusted_out(answer: Result<(), AdjustRefusal>, pairs_before: &mut u64) -
 fn laid_out(laid: Laid, joined: &mut u64, place: &mut u64)
     ensures { (joined.new ≡ joined_number laid) × (place.new ≡ place_of laid) }
 {
-    match laid {
-        Laid::Whole(at) => {
-            *joined = 0;
-            *place = at as u64;
-        }
-        Laid::Joined(at) => {
-            *joined = 1;
-            *place = at as u64;
-        }
-    }
+    *joined = match laid {
+        Laid::Whole(_) => 0,
+        Laid::Joined(_) => 1,
+    };
+    *place = laid.place() as u64;
 }
 
 #[tactic(auto, unfolding(crate::specs::ExportedStore::exported_reading))]

@@ -9,7 +9,8 @@ ghost use Rattle.point_store_c.specs.Records.{store_in};
 
 use crate::answers::{adjusted_out, done_number, number_out};
 use crate::record::{store_in, store_out};
-use store_definitions::{Pair, Tables};
+use labels::{LabelLowering, LabelRaising};
+use store_definitions::{Change, Pair, PointRaising, PointTables, Tables};
 use terms::{LabelIndex, PointIndex};
 
 #[unsafe(no_mangle)]
@@ -35,17 +36,18 @@ pub extern "C" fn ps_inc(
 ) -> u64
     ensures { exported result words.now [] (held store.now last_known_shingle.now reference_count.new location.now index_starts.now index_ends.now labels.now label_attributes.now label_count.new label_starts.now label_ends.now attributes.now attribute_count.new attribute_starts.now attribute_ends.now) ≡ exported_call words.now [] (inc_spec (point_store (store_in words.now) (held store.now last_known_shingle.now reference_count.old location.now index_starts.now index_ends.now labels.now label_attributes.now label_count.old label_starts.now label_ends.now attributes.now attribute_count.old attribute_starts.now attribute_ends.now)) index label) }
 {
-    let mut s = store_in(words);
-    let index = PointIndex(index);
-    let label = LabelIndex(label);
-    let answer = store_counts::inc(
-        s,
-        store,
-        last_known_shingle,
+    let s = store_in(words);
+    let change = Change {
+        index: PointIndex(index),
+        label: LabelIndex(label),
+    };
+    let mut points = PointRaising {
         reference_count,
         location,
         index_starts,
         index_ends,
+    };
+    let mut lent = LabelRaising {
         labels,
         label_attributes,
         label_count,
@@ -55,9 +57,8 @@ pub extern "C" fn ps_inc(
         attribute_count,
         attribute_starts,
         attribute_ends,
-        index,
-        label,
-    );
+    };
+    let answer = store_counts::inc(s, store, last_known_shingle, &mut points, &mut lent, change);
     done_number(answer)
 }
 
@@ -85,16 +86,17 @@ pub extern "C" fn ps_dec(
     ensures { exported result words.new [] (held store.now last_known_shingle.now reference_count.new location.new index_starts.new index_ends.new labels.now label_attributes.now label_count.new label_starts.new label_ends.new attributes.now attribute_count.new attribute_starts.new attribute_ends.new) ≡ exported_call words.old [] (dec_spec (point_store (store_in words.old) (held store.now last_known_shingle.now reference_count.old location.old index_starts.old index_ends.old labels.now label_attributes.now label_count.old label_starts.old label_ends.old attributes.now attribute_count.old attribute_starts.old attribute_ends.old)) index label) }
 {
     let mut s = store_in(words);
-    let index = PointIndex(index);
-    let label = LabelIndex(label);
-    let answer = store_counts::dec(
-        &mut s,
-        store,
-        last_known_shingle,
+    let change = Change {
+        index: PointIndex(index),
+        label: LabelIndex(label),
+    };
+    let mut points = PointTables {
         reference_count,
         location,
         index_starts,
         index_ends,
+    };
+    let mut lent = LabelLowering {
         labels,
         label_attributes,
         label_count,
@@ -104,8 +106,14 @@ pub extern "C" fn ps_dec(
         attribute_count,
         attribute_starts,
         attribute_ends,
-        index,
-        label,
+    };
+    let answer = store_counts::dec(
+        &mut s,
+        store,
+        last_known_shingle,
+        &mut points,
+        &mut lent,
+        change,
     );
     store_out(words, s);
     done_number(answer)
@@ -136,14 +144,13 @@ pub extern "C" fn ps_adjust(
     ensures { exported result words.new (pairs_before.new ∷ []) (held store.new last_known_shingle.new reference_count.new location.new index_starts.new index_ends.new labels.new label_attributes.new label_count.new label_starts.new label_ends.new attributes.new attribute_count.new attribute_starts.new attribute_ends.new) ≡ exported_call words.old (pairs_before.old ∷ []) (adjust_spec (point_store (store_in words.old) (held store.old last_known_shingle.old reference_count.old location.old index_starts.old index_ends.old labels.old label_attributes.old label_count.old label_starts.old label_ends.old attributes.old attribute_count.old attribute_starts.old attribute_ends.old)) (pairings_of pairs.now)) }
 {
     let mut s = store_in(words);
-    let answer = store_adjust_pairs::adjust_count(
-        &mut s,
-        store,
-        last_known_shingle,
+    let mut points = PointTables {
         reference_count,
         location,
         index_starts,
         index_ends,
+    };
+    let mut lent = LabelLowering {
         labels,
         label_attributes,
         label_count,
@@ -153,6 +160,13 @@ pub extern "C" fn ps_adjust(
         attribute_count,
         attribute_starts,
         attribute_ends,
+    };
+    let answer = store_adjust_pairs::adjust_count(
+        &mut s,
+        store,
+        last_known_shingle,
+        &mut points,
+        &mut lent,
         pairs,
     );
     store_out(words, s);

@@ -14,20 +14,21 @@ ghost use Rattle.terms.specs.Refusals.{number};
 use crate::answers::{added_out, done_number, number_out};
 use crate::hold_record::{HOLD_WORDS, hold_in, hold_out, hold_write};
 use crate::opening::shape_in;
-use hold_definitions::Hold;
-use store_definitions::{Shape, Tables};
+use hold_definitions::{Hold, width_allowed};
+use labels::LabelWriting;
+use store_definitions::{PointTables, Shape, Tables};
 use store_rows::shape_allowed;
 use terms::Refusal;
 
 // Why a record that is too short is refused: the shape is looked at first, then the width.
-#[tactic(auto, unfolding(crate::specs::ExportedHold::short_hold, hold_definitions::specs::WellFormed::width_allowed))]
+#[tactic(auto, unfolding(crate::specs::ExportedHold::short_hold))]
 fn short_hold(shape: Shape, width: usize) -> Refusal
     ensures { number result ≡ short_hold shape width }
 {
     if !shape_allowed(shape) {
         return Refusal::Shape;
     }
-    if (1 <= width) & (width < shape.capacity) {
+    if width_allowed(width, shape.capacity) {
         return Refusal::IllFormed;
     }
     Refusal::HoldWidth
@@ -48,6 +49,7 @@ fn opened_hold_out(words: &mut [u64], answer: Result<Hold, Refusal>) -> u64
     }
 }
 
+#[tactic(auto, unfolding(crate::specs::ExportedHold::hold_exported_opening))]
 #[unsafe(no_mangle)]
 pub extern "C" fn ps_hold_open(
     words: &mut [u64],
@@ -92,15 +94,13 @@ pub extern "C" fn ps_hold_open(
     if words.len() < HOLD_WORDS {
         return u64::from(short_hold(shape, width));
     }
-    let result = hold_opening::open_hold(
-        shape,
-        width,
-        store,
-        last_known_shingle,
+    let mut points = PointTables {
         reference_count,
         location,
         index_starts,
         index_ends,
+    };
+    let mut lent = LabelWriting {
         labels,
         label_attributes,
         label_count,
@@ -110,6 +110,14 @@ pub extern "C" fn ps_hold_open(
         attribute_count,
         attribute_starts,
         attribute_ends,
+    };
+    let result = hold_opening::open_hold(
+        shape,
+        width,
+        store,
+        last_known_shingle,
+        &mut points,
+        &mut lent,
         held_indices,
         held_labels,
         class_text,
@@ -149,14 +157,13 @@ pub extern "C" fn ps_hold_add(
     ensures { hold_exported result words.new (kept.new ∷ index.new ∷ label_index.new ∷ joined.new ∷ place.new ∷ free_indices.new ∷ []) (hold_held store.new last_known_shingle.new reference_count.new location.new index_starts.new index_ends.new labels.new label_attributes.new label_count.new label_starts.new label_ends.new attributes.new attribute_count.new attribute_starts.new attribute_ends.new held_indices.new held_labels.new) ≡ hold_exported_call words.old (kept.old ∷ index.old ∷ label_index.old ∷ joined.old ∷ place.old ∷ free_indices.old ∷ []) (hold_add_spec words_equal 0 (point_hold (hold_in words.old) (hold_held store.old last_known_shingle.old reference_count.old location.old index_starts.old index_ends.old labels.old label_attributes.old label_count.old label_starts.old label_ends.old attributes.old attribute_count.old attribute_starts.old attribute_ends.old held_indices.old held_labels.old)) point.now label) }
 {
     let mut h = hold_in(words);
-    let answer = hold::add(
-        &mut h,
-        store,
-        last_known_shingle,
+    let mut points = PointTables {
         reference_count,
         location,
         index_starts,
         index_ends,
+    };
+    let mut lent = LabelWriting {
         labels,
         label_attributes,
         label_count,
@@ -166,6 +173,13 @@ pub extern "C" fn ps_hold_add(
         attribute_count,
         attribute_starts,
         attribute_ends,
+    };
+    let answer = hold::add(
+        &mut h,
+        store,
+        last_known_shingle,
+        &mut points,
+        &mut lent,
         held_indices,
         held_labels,
         point,

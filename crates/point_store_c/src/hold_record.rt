@@ -9,6 +9,8 @@ use hold_opening::no_hold;
 pub const HOLD_WORDS: usize = 41;
 
 // The hold that a record holds; one too short is read as the record of zeros, which every call refuses as ill-formed.
+// Kept: an Option would give three calls a second way to refuse, beside the one for the store in it that is none.
+#[tactic(auto, unfolding(crate::specs::HoldRecords::hold_in))]
 pub fn hold_in(words: &[u64]) -> Hold
     ensures { result ≡ hold_in words.now }
 {
@@ -22,6 +24,7 @@ pub fn hold_in(words: &[u64]) -> Hold
 }
 
 // The two words after the store's.
+#[tactic(auto, unfolding(crate::specs::HoldRecords::tail_out))]
 fn tail_write(words: &mut [u64], width: usize, held: usize)
     requires { 41 ≤ length words.old }
     ensures { words.new ≡ tail_out words.old width held }
@@ -30,6 +33,7 @@ fn tail_write(words: &mut [u64], width: usize, held: usize)
     words[40] = held as u64;
 }
 
+#[tactic(auto, unfolding(crate::specs::HoldRecords::hold_out))]
 pub fn hold_write(words: &mut [u64], h: Hold)
     requires { 41 ≤ length words.old }
     ensures { words.new ≡ hold_out words.old h }
@@ -40,6 +44,7 @@ pub fn hold_write(words: &mut [u64], h: Hold)
 }
 
 // A record that is too short is left as it was, and so are the words of a store in it that is none.
+#[tactic(auto, unfolding(crate::specs::HoldRecords::hold_recorded))]
 pub fn hold_out(words: &mut [u64], h: Hold)
     ensures { words.new ≡ hold_recorded words.old h }
 {

@@ -1,15 +1,19 @@
 // The interval manager's calls. The words of its record are the capacity and then the entries in use; a record of fewer
 // words is ill-formed.
 ghost use Rattle.std.specs.Prelude.{[], ◌∷◌, ◌≡◌, ◌≤◌, length};
+ghost use Rattle.interval_store_manager.specs.Answers.{changed_means, done};
 ghost use Rattle.interval_store_manager.specs.Calls.{change_spec, get_spec, release_spec, used_spec, is_empty_spec, get_capacity_spec};
-ghost use Rattle.point_store_c.specs.Exported.{manager_in, manager_out, exported, exported_opening, exported_call, read, exported_reading};
+ghost use Rattle.point_store_c.specs.Exported.{manager_in, manager_out, returned, recorded, exported, exported_opening, exported_call, read, exported_reading};
 
+use crate::answers::number_out;
 use interval_store_manager::{IntervalStoreManager, capacity_allowed};
 use terms::Refusal;
 
 const RECORD_WORDS: usize = 2;
 
 // The manager that a record holds. One too short holds none: the manager of capacity 0, which is ill-formed.
+// Kept: tried with an Option: six calls refuse in a second place and change_capacity in a third (13 before 1), in 14 lines more.
+#[tactic(auto, unfolding(crate::specs::Exported::manager_in))]
 fn manager_in(words: &[u64]) -> IntervalStoreManager
     ensures { result ≡ manager_in words.now }
 {
@@ -25,6 +29,7 @@ fn manager_in(words: &[u64]) -> IntervalStoreManager
     }
 }
 
+#[tactic(auto, unfolding(crate::specs::Exported::manager_out))]
 fn manager_out(words: &mut [u64], m: IntervalStoreManager)
     requires { 2 ≤ length words.old }
     ensures { words.new ≡ manager_out words.old m }
@@ -33,6 +38,7 @@ fn manager_out(words: &mut [u64], m: IntervalStoreManager)
     words[1] = m.last_in_use as u64;
 }
 
+#[tactic(auto, unfolding(crate::specs::Exported::exported_opening))]
 #[unsafe(no_mangle)]
 pub extern "C" fn ps_manager_new(
     words: &mut [u64],
@@ -48,6 +54,7 @@ pub extern "C" fn ps_manager_new(
         }
         return u64::from(Refusal::ManagerCapacity);
     }
+    // Kept: one function with the openings of store, hold and product would take the writer of the record as a closure, and save four lines.
     match IntervalStoreManager::new(size, starts, ends) {
         Err(why) => u64::from(why),
         Ok(m) => {
@@ -57,6 +64,21 @@ pub extern "C" fn ps_manager_new(
     }
 }
 
+// A refused call leaves the record.
+fn changed_out(words: &mut [u64], m: IntervalStoreManager, answer: Result<(), Refusal>) -> u64
+    requires { changed_means answer ≡ done → 2 ≤ length words.old }
+    ensures { (result ≡ returned (changed_means answer)) × (words.new ≡ recorded words.old (changed_means answer) m) }
+{
+    match answer {
+        Err(why) => u64::from(why),
+        Ok(()) => {
+            manager_out(words, m);
+            0
+        }
+    }
+}
+
+#[tactic(auto, using(crate::specs::ExportedLaws::changed_carried))]
 #[unsafe(no_mangle)]
 pub extern "C" fn ps_manager_change_capacity(
     words: &mut [u64],
@@ -67,15 +89,11 @@ pub extern "C" fn ps_manager_change_capacity(
     ensures { exported result words.new [] starts.new ends.new ≡ exported_call words.old [] (change_spec (manager_in words.old) starts.old ends.old new_capacity) }
 {
     let mut m = manager_in(words);
-    match m.change_capacity(starts, ends, new_capacity) {
-        Err(why) => u64::from(why),
-        Ok(()) => {
-            manager_out(words, m);
-            0
-        }
-    }
+    let answer = m.change_capacity(starts, ends, new_capacity);
+    changed_out(words, m, answer)
 }
 
+#[tactic(auto, unfolding(crate::specs::Exported::exported_call))]
 #[unsafe(no_mangle)]
 pub extern "C" fn ps_manager_get(
     words: &mut [u64],
@@ -98,6 +116,7 @@ pub extern "C" fn ps_manager_get(
     }
 }
 
+#[tactic(auto, using(crate::specs::ExportedLaws::changed_carried))]
 #[unsafe(no_mangle)]
 pub extern "C" fn ps_manager_release(
     words: &mut [u64],
@@ -108,13 +127,8 @@ pub extern "C" fn ps_manager_release(
     ensures { exported result words.new [] starts.new ends.new ≡ exported_call words.old [] (release_spec (manager_in words.old) starts.old ends.old index) }
 {
     let mut m = manager_in(words);
-    match m.release(starts, ends, index) {
-        Err(why) => u64::from(why),
-        Ok(()) => {
-            manager_out(words, m);
-            0
-        }
-    }
+    let answer = m.release(starts, ends, index);
+    changed_out(words, m, answer)
 }
 
 #[unsafe(no_mangle)]
@@ -126,13 +140,8 @@ pub extern "C" fn ps_manager_used(
 ) -> u64
     ensures { read result (used.new ∷ []) ≡ exported_reading (used.old ∷ []) (used_spec (manager_in words.now) starts.now ends.now) }
 {
-    match manager_in(words).used(starts, ends) {
-        Err(why) => u64::from(why),
-        Ok(n) => {
-            *used = n as u64;
-            0
-        }
-    }
+    let answer = manager_in(words).used(starts, ends);
+    number_out(answer, used)
 }
 
 // 1 where no index is free, else 0.
@@ -145,13 +154,8 @@ pub extern "C" fn ps_manager_is_empty(
 ) -> u64
     ensures { read result (empty.new ∷ []) ≡ exported_reading (empty.old ∷ []) (is_empty_spec (manager_in words.now) starts.now ends.now) }
 {
-    match manager_in(words).is_empty(starts, ends) {
-        Err(why) => u64::from(why),
-        Ok(b) => {
-            *empty = b as u64;
-            0
-        }
-    }
+    let answer = manager_in(words).is_empty(starts, ends);
+    number_out(answer.map(usize::from), empty)
 }
 
 #[unsafe(no_mangle)]
@@ -163,11 +167,6 @@ pub extern "C" fn ps_manager_get_capacity(
 ) -> u64
     ensures { read result (capacity.new ∷ []) ≡ exported_reading (capacity.old ∷ []) (get_capacity_spec (manager_in words.now) starts.now ends.now) }
 {
-    match manager_in(words).get_capacity(starts, ends) {
-        Err(why) => u64::from(why),
-        Ok(n) => {
-            *capacity = n as u64;
-            0
-        }
-    }
+    let answer = manager_in(words).get_capacity(starts, ends);
+    number_out(answer, capacity)
 }

@@ -16,6 +16,7 @@ fn copy_text(text: &[u8], out: &mut [u8])
     out[..text.len()].copy_from_slice(text);
 }
 
+#[tactic(auto, using(crate::specs::Naming::name_refused, crate::specs::Naming::name_given), unfolding(crate::specs::Naming::name_text))]
 #[unsafe(no_mangle)]
 pub extern "C" fn ps_name(out: &mut [u8], name_length: &mut u64) -> u64
     ensures { named result out.new name_length.new ≡ exported_name out.old name_length.old }

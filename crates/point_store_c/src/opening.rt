@@ -7,11 +7,14 @@ ghost use Rattle.terms.specs.Refusals.{number};
 ghost use Rattle.point_store_c.specs.ExportedStore.{returned, opened_words, exported, shape_in, short_record, exported_opening};
 
 use crate::record::{RECORD_WORDS, record_write};
-use store_definitions::{Shape, Store};
+use labels::LabelWriting;
+use store_definitions::{PointTables, Shape, Store};
 use store_rows::shape_allowed;
 use terms::Refusal;
 
 // What a flag above 1 stands for: a shape of zeros, which is outside the bounds.
+// Kept: an Option would save these nine lines and cost three in each of three openings, which refuse a shape already.
+#[tactic(auto, unfolding(crate::specs::ExportedStore::shape_in))]
 pub fn shape_in(
     dimensions: usize,
     shingle_size: usize,
@@ -71,6 +74,7 @@ fn opened_out(words: &mut [u64], answer: Result<Store, Refusal>) -> u64
     }
 }
 
+#[tactic(auto, unfolding(crate::specs::ExportedStore::exported_opening))]
 #[unsafe(no_mangle)]
 pub extern "C" fn ps_open(
     words: &mut [u64],
@@ -112,14 +116,13 @@ pub extern "C" fn ps_open(
     if words.len() < RECORD_WORDS {
         return u64::from(short_record(shape));
     }
-    let result = store_rows::open(
-        shape,
-        store,
-        last_known_shingle,
+    let mut points = PointTables {
         reference_count,
         location,
         index_starts,
         index_ends,
+    };
+    let mut lent = LabelWriting {
         labels,
         label_attributes,
         label_count,
@@ -129,6 +132,13 @@ pub extern "C" fn ps_open(
         attribute_count,
         attribute_starts,
         attribute_ends,
+    };
+    let result = store_rows::open(
+        shape,
+        store,
+        last_known_shingle,
+        &mut points,
+        &mut lent,
         class_text,
     );
     opened_out(words, result)

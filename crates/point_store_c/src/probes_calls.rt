@@ -16,14 +16,15 @@ ghost use Rattle.terms.specs.Refusals.{number};
 use crate::answers::{added_out, done_number};
 use crate::opening::shape_in;
 use crate::probes_record::{PROBES_WORDS, probes_in, probes_out, probes_write};
+use labels::{LabelTaking, LabelWriting};
 use probes_check::eight_probes;
 use probes_definitions::Probes;
-use store_definitions::{Shape, Tables};
+use store_definitions::{PointTables, Shape, Tables};
 use store_rows::shape_allowed;
 use terms::Refusal;
 
 // Why a record that is too short is refused: the shape is looked at first.
-#[tactic(auto, unfolding(crate::specs::ExportedProbes::short_probes))]
+#[tactic(auto, using(crate::proofs::ExportedProbesLaws::shingled), unfolding(crate::specs::ExportedProbes::short_probes))]
 fn short_probes(shape: Shape) -> Refusal
     ensures { number result ≡ short_probes shape }
 {
@@ -55,6 +56,7 @@ fn opened_probes_out(words: &mut [u64], answer: Result<Probes, Refusal>) -> u64
     }
 }
 
+#[tactic(auto, unfolding(crate::specs::ExportedProbes::probes_exported_opening))]
 #[unsafe(no_mangle)]
 pub extern "C" fn ps_probes_open(
     words: &mut [u64],
@@ -96,14 +98,13 @@ pub extern "C" fn ps_probes_open(
     if words.len() < PROBES_WORDS {
         return u64::from(short_probes(shape));
     }
-    let result = probes_opening::open_probes(
-        shape,
-        store,
-        last_known_shingle,
+    let mut points = PointTables {
         reference_count,
         location,
         index_starts,
         index_ends,
+    };
+    let mut lent = LabelWriting {
         labels,
         label_attributes,
         label_count,
@@ -113,6 +114,13 @@ pub extern "C" fn ps_probes_open(
         attribute_count,
         attribute_starts,
         attribute_ends,
+    };
+    let result = probes_opening::open_probes(
+        shape,
+        store,
+        last_known_shingle,
+        &mut points,
+        &mut lent,
         class_text,
     );
     opened_probes_out(words, result)
@@ -150,14 +158,13 @@ pub extern "C" fn ps_probes_set(
     ensures { exported result words.new (kept.new ∷ index.new ∷ label_index.new ∷ joined.new ∷ place.new ∷ free_indices.new ∷ []) (held store.new last_known_shingle.new reference_count.new location.new index_starts.new index_ends.new labels.new label_attributes.new label_count.new label_starts.new label_ends.now attributes.new attribute_count.new attribute_starts.new attribute_ends.now) ≡ probes_exported_call words.old (kept.old ∷ index.old ∷ label_index.old ∷ joined.old ∷ place.old ∷ free_indices.old ∷ []) (set_kinds_spec words_equal 0 (point_probes (probes_in words.old) (held store.old last_known_shingle.old reference_count.old location.old index_starts.old index_ends.old labels.old label_attributes.old label_count.old label_starts.old label_ends.now attributes.old attribute_count.old attribute_starts.old attribute_ends.now)) kinds.now floats.now label) }
 {
     let mut p = probes_in(words);
-    let answer = probes::set_words(
-        &mut p,
-        store,
-        last_known_shingle,
+    let mut points = PointTables {
         reference_count,
         location,
         index_starts,
         index_ends,
+    };
+    let mut lent = LabelTaking {
         labels,
         label_attributes,
         label_count,
@@ -167,6 +174,13 @@ pub extern "C" fn ps_probes_set(
         attribute_count,
         attribute_starts,
         attribute_ends,
+    };
+    let answer = probes::set_words(
+        &mut p,
+        store,
+        last_known_shingle,
+        &mut points,
+        &mut lent,
         kinds,
         floats,
         label,

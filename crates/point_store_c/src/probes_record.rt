@@ -7,6 +7,8 @@ use probes_definitions::Probes;
 use probes_opening::no_probes;
 
 pub const PROBES_WORDS: usize = 47;
+// From here on one word a tally.
+const TALLY_WORDS: usize = 39;
 
 // A tally has 32 bits.
 const TALLY_END: u64 = 0x1_0000_0000;
@@ -15,16 +17,13 @@ fn tallies_legal(words: &[u64]) -> bool
     requires { 47 ≤ length words.now }
     ensures { result ≡ legal_tallies words.now }
 {
-    (words[39] < TALLY_END)
-        & ((words[40] < TALLY_END)
-            & ((words[41] < TALLY_END)
-                & ((words[42] < TALLY_END)
-                    & ((words[43] < TALLY_END)
-                        & ((words[44] < TALLY_END)
-                            & ((words[45] < TALLY_END) & ((words[46] < TALLY_END))))))))
+    words[TALLY_WORDS..PROBES_WORDS]
+        .iter()
+        .all(|word| *word < TALLY_END)
 }
 
 // Whether the record has its words and each tally its 32 bits.
+#[tactic(auto, unfolding(crate::specs::ProbesRecords::legal_probes))]
 fn probes_legal(words: &[u64]) -> bool
     ensures { result ≡ legal_probes words.now }
 {
@@ -36,22 +35,20 @@ fn probes_legal(words: &[u64]) -> bool
 
 // Of a legal record.
 fn tallies_read(words: &[u64]) -> [u32; 8]
-    requires { legal_probes words.now ≡ true }
+    requires { (47 ≤ length words.now) × (legal_tallies words.now ≡ true) }
     ensures { result ≡ tallies_read words.now }
 {
-    [
-        words[39] as u32,
-        words[40] as u32,
-        words[41] as u32,
-        words[42] as u32,
-        words[43] as u32,
-        words[44] as u32,
-        words[45] as u32,
-        words[46] as u32,
-    ]
+    let mut tallies = [0u32; 8];
+    // Kept: beside the loop of `class_words`, since one for both would take the cast as a closure.
+    for i in 0..8 {
+        tallies[i] = words[TALLY_WORDS + i] as u32;
+    }
+    tallies
 }
 
 // The product that a record holds; an illegal one is read as the record of zeros, which every call refuses as ill-formed.
+// Kept: an Option would give two calls a second way to refuse, beside the one for the store in it that is none.
+#[tactic(auto, using(crate::proofs::ProbesRecordLaws::legal), unfolding(crate::specs::ProbesRecords::probes_in))]
 pub fn probes_in(words: &[u64]) -> Probes
     ensures { result ≡ probes_in words.now }
 {
@@ -68,16 +65,13 @@ fn tallies_write(words: &mut [u64], tallies: [u32; 8])
     requires { 47 ≤ length words.old }
     ensures { words.new ≡ tallies_out words.old tallies }
 {
-    words[39] = tallies[0] as u64;
-    words[40] = tallies[1] as u64;
-    words[41] = tallies[2] as u64;
-    words[42] = tallies[3] as u64;
-    words[43] = tallies[4] as u64;
-    words[44] = tallies[5] as u64;
-    words[45] = tallies[6] as u64;
-    words[46] = tallies[7] as u64;
+    // Kept: beside the loop of `class_words`, since one for both would take the cast as a closure.
+    for i in 0..8 {
+        words[TALLY_WORDS + i] = tallies[i] as u64;
+    }
 }
 
+#[tactic(auto, unfolding(crate::specs::ProbesRecords::probes_out))]
 pub fn probes_write(words: &mut [u64], p: Probes)
     requires { 47 ≤ length words.old }
     ensures { words.new ≡ probes_out words.old p }
@@ -89,6 +83,7 @@ pub fn probes_write(words: &mut [u64], p: Probes)
 }
 
 // An illegal record is left as it was, and so are the words of a store in it that is none.
+#[tactic(auto, using(crate::proofs::ProbesRecordLaws::legal), unfolding(crate::specs::ProbesRecords::probes_recorded))]
 pub fn probes_out(words: &mut [u64], p: Probes)
     ensures { words.new ≡ probes_recorded words.old p }
 {

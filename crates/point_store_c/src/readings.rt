@@ -11,7 +11,7 @@ ghost use Rattle.row_readings.specs.Items.{weightings_of};
 ghost use Rattle.point_store_c.specs.ExportedStore.{read, exported_reading, written, exported_output};
 ghost use Rattle.point_store_c.specs.Records.{store_in};
 
-use crate::answers::{done_number, equality_out};
+use crate::answers::{done_number, number_out};
 use crate::record::store_in;
 use store_definitions::{Item, Tables};
 use terms::PointIndex;
@@ -59,7 +59,7 @@ pub extern "C" fn ps_is_equal(
         attribute_ends,
     );
     let answer = store_readings::is_equal(s, store, last_known_shingle, tables, index, point);
-    equality_out(answer, equal)
+    number_out(answer.map(usize::from), equal)
 }
 
 // Over the caller's own records. All else is in the functions that it calls.

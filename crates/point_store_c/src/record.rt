@@ -8,11 +8,13 @@ use interval_store_manager::IntervalStoreManager;
 use store_definitions::Store;
 use store_rows::no_record;
 
+// Kept: that a slice has so many words is one comparison in each contract, 39 in four, 41 in three, 47 in five: a record would be longer.
 pub const RECORD_WORDS: usize = 39;
 // From here on one word a class of the table.
 const CLASS_WORDS: usize = 15;
 
 // Whether the record has its words, each flag is 0 or 1, the sequence number has 32 bits and each class is a byte.
+#[tactic(auto, unfolding(crate::specs::Records::legal_record))]
 fn record_legal(words: &[u64]) -> bool
     ensures { result ≡ legal_record words.now }
 {
@@ -24,6 +26,8 @@ fn record_legal(words: &[u64]) -> bool
 }
 
 // The store that a record holds; an illegal one is read as the record of zeros, which every call refuses as ill-formed.
+// Kept: an Option would give eighteen calls a second way to refuse, and adjust's would also lend that no pair came before.
+#[tactic(auto, using(crate::proofs::RecordLaws::legal), unfolding(crate::specs::Records::store_in))]
 pub fn store_in(words: &[u64]) -> Store
     ensures { result ≡ store_in words.now }
 {
@@ -66,6 +70,7 @@ fn store_read(words: &[u64], classes: [u8; 24]) -> Store
 }
 
 // The words before the classes.
+// Kept: an array of the fields copied in one go would be as long, and not say which word is which.
 fn head_write(words: &mut [u64], s: Store)
     requires { 39 ≤ length words.old }
     ensures { words.new ≡ sets words.old 0 (head_words s) }
@@ -87,6 +92,7 @@ fn head_write(words: &mut [u64], s: Store)
     words[14] = s.attribute_manager.last_in_use as u64;
 }
 
+#[tactic(auto, unfolding(crate::specs::Records::store_out))]
 pub fn record_write(words: &mut [u64], s: Store)
     requires { 39 ≤ length words.old }
     ensures { words.new ≡ store_out words.old s }
@@ -98,6 +104,7 @@ pub fn record_write(words: &mut [u64], s: Store)
 
 // The words before the classes, since no call but opening changes a class. An illegal record was read as one of capacity 0, which
 // every call leaves, and is left as it was.
+#[tactic(auto, unfolding(crate::specs::Records::recorded))]
 pub fn store_out(words: &mut [u64], s: Store)
     ensures { words.new ≡ recorded words.old s }
 {

@@ -10,7 +10,8 @@ ghost use Rattle.point_store_c.specs.Records.{store_in};
 
 use crate::answers::{added_out, done_number};
 use crate::record::{store_in, store_out};
-use store_definitions::Tables;
+use labels::LabelTaking;
+use store_definitions::{PointTables, Tables};
 use terms::PointIndex;
 
 #[unsafe(no_mangle)]
@@ -43,14 +44,13 @@ pub extern "C" fn ps_add(
     ensures { exported result words.new (kept.new ∷ index.new ∷ label_index.new ∷ joined.new ∷ place.new ∷ free_indices.new ∷ []) (held store.new last_known_shingle.new reference_count.new location.new index_starts.new index_ends.new labels.new label_attributes.new label_count.new label_starts.new label_ends.now attributes.new attribute_count.new attribute_starts.new attribute_ends.now) ≡ exported_call words.old (kept.old ∷ index.old ∷ label_index.old ∷ joined.old ∷ place.old ∷ free_indices.old ∷ []) (add_spec words_equal 0 (point_store (store_in words.old) (held store.old last_known_shingle.old reference_count.old location.old index_starts.old index_ends.old labels.old label_attributes.old label_count.old label_starts.old label_ends.now attributes.old attribute_count.old attribute_starts.old attribute_ends.now)) point.now label) }
 {
     let mut s = store_in(words);
-    let answer = store_add::add(
-        &mut s,
-        store,
-        last_known_shingle,
+    let mut points = PointTables {
         reference_count,
         location,
         index_starts,
         index_ends,
+    };
+    let mut lent = LabelTaking {
         labels,
         label_attributes,
         label_count,
@@ -60,6 +60,13 @@ pub extern "C" fn ps_add(
         attribute_count,
         attribute_starts,
         attribute_ends,
+    };
+    let answer = store_add::add(
+        &mut s,
+        store,
+        last_known_shingle,
+        &mut points,
+        &mut lent,
         point,
         label,
     );

@@ -2,6 +2,7 @@
 ghost use Rattle.std.specs.Prelude.{◌≡◌, length};
 ghost use Rattle.probe_readings.specs.Kinds.{kind_of, word_in, kinds_of, words_of};
 
+use super::{ABSENT, ESTIMATED, MEASURED};
 use float_bits::word_of_float;
 use probes_definitions::Reading;
 use terms::FloatBits;
@@ -12,9 +13,9 @@ fn kind_of(reading: Reading) -> u8
     ensures { result ≡ kind_of reading }
 {
     match reading {
-        Reading::Measured(_) => 0,
-        Reading::Estimated(_) => 1,
-        Reading::Absent => 2,
+        Reading::Measured(_) => MEASURED,
+        Reading::Estimated(_) => ESTIMATED,
+        Reading::Absent => ABSENT,
     }
 }
 

@@ -4,12 +4,8 @@ ghost use Rattle.interval_store_manager.specs.Calls.{decision_means};
 ghost use Rattle.probes_definitions.specs.Readings.{any_above};
 ghost use Rattle.probe_readings.specs.Deciding.{set_asked};
 
+use super::{ABSENT, ESTIMATED};
 use terms::Refusal;
-
-// Kept: a kind is a byte, since the C interface lends eight of them, and one may be no kind at all. An enum here would be a second
-// pass that copies them.
-// The greatest kind: Absent.
-const ABSENT: u8 = 2;
 
 fn any_above(limit: u8, kinds: &[u8]) -> bool
     ensures { result ≡ any_above limit kinds.now }
@@ -18,6 +14,7 @@ fn any_above(limit: u8, kinds: &[u8]) -> bool
 }
 
 // Eight kinds and eight words, else 3; then 11; then 16.
+#[tactic(auto, using(crate::specs::Deciding::kinds_short, crate::specs::Deciding::words_short, crate::specs::Deciding::kind_unknown, crate::specs::Deciding::none_earlier, crate::specs::Deciding::none_absent, crate::specs::Deciding::some_earlier))]
 pub fn set_decision(sequence: u32, kinds: &[u8], words: usize) -> Result<(), Refusal>
     ensures { decision_means result ≡ set_asked sequence kinds.now words }
 {
@@ -31,7 +28,7 @@ pub fn set_decision(sequence: u32, kinds: &[u8], words: usize) -> Result<(), Ref
         return Err(Refusal::ValueTooLarge);
     }
     if sequence == 0 {
-        if any_above(1, kinds) {
+        if any_above(ESTIMATED, kinds) {
             return Err(Refusal::NoEarlierReading);
         }
     }

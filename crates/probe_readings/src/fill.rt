@@ -2,16 +2,18 @@
 ghost use Rattle.std.specs.Prelude.{◌≡◌, ◌-◌, ◌≤◌, length, take, drop};
 ghost use Rattle.probes_definitions.specs.Readings.{stored, filled, of_kind, of_kinds};
 
+use super::ABSENT;
 use terms::FloatBits;
 
 fn word_stored(kind: u8, word: FloatBits, last: FloatBits) -> FloatBits
     ensures { result ≡ stored (of_kind kind word) last }
 {
-    if kind < 2 { word } else { last }
+    if kind < ABSENT { word } else { last }
 }
 
-fn fill(last: &[FloatBits], kinds: &[u8], words: &[FloatBits]) -> [FloatBits; 8]
-    requires { (length last.now ≡ 8) × ((length kinds.now ≡ 8) × (length words.now ≡ 8)) }
+#[tactic(auto, using(crate::specs::Entries::written_all, probes_definitions::specs::ReadingLaws::filled_length, probes_definitions::specs::ReadingLaws::kinds_length))]
+fn fill(last: &[FloatBits], kinds: &[u8; 8], words: &[FloatBits; 8]) -> [FloatBits; 8]
+    requires { length last.now ≡ 8 }
     ensures { result ≡ filled (of_kinds kinds.now words.now) last.now }
 {
     let mut set = [0u32; 8];
@@ -25,10 +27,10 @@ fn fill(last: &[FloatBits], kinds: &[u8], words: &[FloatBits]) -> [FloatBits; 8]
 pub fn filled_words(
     dimensions: usize,
     window: &[FloatBits],
-    kinds: &[u8],
-    words: &[FloatBits],
+    kinds: &[u8; 8],
+    words: &[FloatBits; 8],
 ) -> [FloatBits; 8]
-    requires { ((8 ≤ dimensions) × (dimensions ≤ length window.now)) × ((length kinds.now ≡ 8) × (length words.now ≡ 8)) }
+    requires { (8 ≤ dimensions) × (dimensions ≤ length window.now) }
     ensures { result ≡ filled (of_kinds kinds.now words.now) (drop (dimensions - 8) (take dimensions window.now)) }
 {
     let from = dimensions - 8;

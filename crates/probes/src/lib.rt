@@ -1,7 +1,5 @@
 // A set of eight readings taken by a product: one add of the store, and the tallies. Opening stands in `probes_opening`, the reading of
 // the tallies in `probes_check`.
-// Kept: the lent slices are parameters of their own, since the C interface lends as `&mut` only what a call writes, and a struct of
-// `&mut` slices comes back from a call under names of the checker's own.
 #![tactic(auto)]
 
 ghost use Rattle.std.specs.Prelude.{true, ◌≡◌, length};
@@ -14,61 +12,42 @@ ghost use Rattle.probes_definitions.specs.WellFormed.{probes_well_formed};
 ghost use Rattle.store_check.specs.Figures.{FiguresOf};
 ghost use Rattle.store_definitions.specs.Adding.{add_spec};
 ghost use Rattle.store_definitions.specs.Answers.{added_means};
-ghost use Rattle.store_definitions.specs.Lent.{held};
+ghost use Rattle.labels.specs.Lent.{SameTaking};
+ghost use Rattle.store_definitions.specs.Lent.{SamePoints, lent_taking};
 ghost use Rattle.store_definitions.specs.Memory.{point_store};
 
+use labels::LabelTaking;
 use probe_readings::{filled_words, kinds_of, set_decision, tallied, words_of};
 use probes_check::check_probes;
 use probes_definitions::{Probes, Reading};
 use store_add::add_unchecked;
 use store_check::Figures;
-use store_definitions::{Kept, Tables};
+use store_definitions::{Kept, PointTables};
 use terms::{FloatBits, Refusal};
 
-// Of a product that is well-formed, with eight kinds and eight words.
+// Of a product that is well-formed.
 fn set_filled(
     p: &mut Probes,
     store: &mut [FloatBits],
     last_known_shingle: &mut [FloatBits],
-    reference_count: &mut [u16],
-    location: &mut [u16],
-    index_starts: &mut [u16],
-    index_ends: &mut [u16],
-    labels: &mut [u8],
-    label_attributes: &mut [u16],
-    label_count: &mut [u16],
-    label_starts: &mut [u16],
-    label_ends: &[u16],
-    attributes: &mut [u8],
-    attribute_count: &mut [u32],
-    attribute_starts: &mut [u16],
-    attribute_ends: &[u16],
-    kinds: &[u8],
-    words: &[FloatBits],
+    points: &mut PointTables,
+    labels: &mut LabelTaking,
+    kinds: &[u8; 8],
+    words: &[FloatBits; 8],
     label: usize,
     figures: Figures,
 ) -> Result<Option<Kept>, Refusal>
-    requires { (probes_well_formed (point_probes p.old (held store.old last_known_shingle.old reference_count.old location.old index_starts.old index_ends.old labels.old label_attributes.old label_count.old label_starts.old label_ends.now attributes.old attribute_count.old attribute_starts.old attribute_ends.now)) ≡ true) × ((length kinds.now ≡ 8) × ((length words.now ≡ 8) × FiguresOf figures (point_store p.old.store (held store.old last_known_shingle.old reference_count.old location.old index_starts.old index_ends.old labels.old label_attributes.old label_count.old label_starts.old label_ends.now attributes.old attribute_count.old attribute_starts.old attribute_ends.now)))) }
-    ensures { probes_outcome (added_means result) (point_probes p.new (held store.new last_known_shingle.new reference_count.new location.new index_starts.new index_ends.new labels.new label_attributes.new label_count.new label_starts.new label_ends.now attributes.new attribute_count.new attribute_starts.new attribute_ends.now)) ≡ set_added (point_probes p.old (held store.old last_known_shingle.old reference_count.old location.old index_starts.old index_ends.old labels.old label_attributes.old label_count.old label_starts.old label_ends.now attributes.old attribute_count.old attribute_starts.old attribute_ends.now)) (of_kinds kinds.now words.now) (add_spec words_equal 0 (point_store p.old.store (held store.old last_known_shingle.old reference_count.old location.old index_starts.old index_ends.old labels.old label_attributes.old label_count.old label_starts.old label_ends.now attributes.old attribute_count.old attribute_starts.old attribute_ends.now)) (filled (of_kinds kinds.now words.now) (last_floats (point_store p.old.store (held store.old last_known_shingle.old reference_count.old location.old index_starts.old index_ends.old labels.old label_attributes.old label_count.old label_starts.old label_ends.now attributes.old attribute_count.old attribute_starts.old attribute_ends.now)))) label) }
+    requires { (probes_well_formed (point_probes p.old (lent_taking store.old last_known_shingle.old points.old labels.old)) ≡ true) × FiguresOf figures (point_store p.old.store (lent_taking store.old last_known_shingle.old points.old labels.old)) }
+    ensures same { SamePoints points.old points.new × SameTaking labels.old labels.new }
+    ensures set { probes_outcome (added_means result) (point_probes p.new (lent_taking store.new last_known_shingle.new points.new labels.new)) ≡ set_added (point_probes p.old (lent_taking store.old last_known_shingle.old points.old labels.old)) (of_kinds kinds.now words.now) (add_spec words_equal 0 (point_store p.old.store (lent_taking store.old last_known_shingle.old points.old labels.old)) (filled (of_kinds kinds.now words.now) (last_floats (point_store p.old.store (lent_taking store.old last_known_shingle.old points.old labels.old)))) label) }
 {
     let filled = filled_words(p.store.dimensions, last_known_shingle, kinds, words);
     let kept = add_unchecked(
         &mut p.store,
         store,
         last_known_shingle,
-        reference_count,
-        location,
-        index_starts,
-        index_ends,
+        points,
         labels,
-        label_attributes,
-        label_count,
-        label_starts,
-        label_ends,
-        attributes,
-        attribute_count,
-        attribute_starts,
-        attribute_ends,
         &filled,
         label,
         figures,
@@ -82,59 +61,27 @@ pub fn set_words(
     p: &mut Probes,
     store: &mut [FloatBits],
     last_known_shingle: &mut [FloatBits],
-    reference_count: &mut [u16],
-    location: &mut [u16],
-    index_starts: &mut [u16],
-    index_ends: &mut [u16],
-    labels: &mut [u8],
-    label_attributes: &mut [u16],
-    label_count: &mut [u16],
-    label_starts: &mut [u16],
-    label_ends: &[u16],
-    attributes: &mut [u8],
-    attribute_count: &mut [u32],
-    attribute_starts: &mut [u16],
-    attribute_ends: &[u16],
+    points: &mut PointTables,
+    labels: &mut LabelTaking,
     kinds: &[u8],
     words: &[FloatBits],
     label: usize,
 ) -> Result<Option<Kept>, Refusal>
-    ensures { probes_outcome (added_means result) (point_probes p.new (held store.new last_known_shingle.new reference_count.new location.new index_starts.new index_ends.new labels.new label_attributes.new label_count.new label_starts.new label_ends.now attributes.new attribute_count.new attribute_starts.new attribute_ends.now)) ≡ set_kinds_spec words_equal 0 (point_probes p.old (held store.old last_known_shingle.old reference_count.old location.old index_starts.old index_ends.old labels.old label_attributes.old label_count.old label_starts.old label_ends.now attributes.old attribute_count.old attribute_starts.old attribute_ends.now)) kinds.now words.now label }
+    ensures same { SamePoints points.old points.new × SameTaking labels.old labels.new }
+    ensures set { probes_outcome (added_means result) (point_probes p.new (lent_taking store.new last_known_shingle.new points.new labels.new)) ≡ set_kinds_spec words_equal 0 (point_probes p.old (lent_taking store.old last_known_shingle.old points.old labels.old)) kinds.now words.now label }
 {
-    let tables = Tables::new(
-        reference_count,
-        location,
-        index_starts,
-        index_ends,
-        labels,
-        label_attributes,
-        label_count,
-        label_starts,
-        label_ends,
-        attributes,
-        attribute_count,
-        attribute_starts,
-        attribute_ends,
-    );
-    let figures = check_probes(*p, store, last_known_shingle, tables).ok_or(Refusal::IllFormed)?;
+    let figures = check_probes(*p, store, last_known_shingle, points.read(labels.read())).ok_or(
+        Refusal::IllFormed,
+    )?;
     set_decision(p.store.next_sequence_index, kinds, words.len())?;
+    let kinds = kinds.first_chunk::<8>().ok_or(Refusal::Length)?;
+    let words = words.first_chunk::<8>().ok_or(Refusal::Length)?;
     set_filled(
         p,
         store,
         last_known_shingle,
-        reference_count,
-        location,
-        index_starts,
-        index_ends,
+        points,
         labels,
-        label_attributes,
-        label_count,
-        label_starts,
-        label_ends,
-        attributes,
-        attribute_count,
-        attribute_starts,
-        attribute_ends,
         kinds,
         words,
         label,
@@ -147,23 +94,13 @@ pub fn set(
     p: &mut Probes,
     store: &mut [FloatBits],
     last_known_shingle: &mut [FloatBits],
-    reference_count: &mut [u16],
-    location: &mut [u16],
-    index_starts: &mut [u16],
-    index_ends: &mut [u16],
-    labels: &mut [u8],
-    label_attributes: &mut [u16],
-    label_count: &mut [u16],
-    label_starts: &mut [u16],
-    label_ends: &[u16],
-    attributes: &mut [u8],
-    attribute_count: &mut [u32],
-    attribute_starts: &mut [u16],
-    attribute_ends: &[u16],
+    points: &mut PointTables,
+    labels: &mut LabelTaking,
     readings: [Reading; 8],
     label: usize,
 ) -> Result<Option<Kept>, Refusal>
-    ensures { probes_outcome (added_means result) (point_probes p.new (held store.new last_known_shingle.new reference_count.new location.new index_starts.new index_ends.new labels.new label_attributes.new label_count.new label_starts.new label_ends.now attributes.new attribute_count.new attribute_starts.new attribute_ends.now)) ≡ set_spec words_equal 0 (point_probes p.old (held store.old last_known_shingle.old reference_count.old location.old index_starts.old index_ends.old labels.old label_attributes.old label_count.old label_starts.old label_ends.now attributes.old attribute_count.old attribute_starts.old attribute_ends.now)) (of_floats readings) label }
+    ensures same { SamePoints points.old points.new × SameTaking labels.old labels.new }
+    ensures set { probes_outcome (added_means result) (point_probes p.new (lent_taking store.new last_known_shingle.new points.new labels.new)) ≡ set_spec words_equal 0 (point_probes p.old (lent_taking store.old last_known_shingle.old points.old labels.old)) (of_floats readings) label }
 {
     let kinds = kinds_of(readings);
     let words = words_of(readings);
@@ -171,19 +108,8 @@ pub fn set(
         p,
         store,
         last_known_shingle,
-        reference_count,
-        location,
-        index_starts,
-        index_ends,
+        points,
         labels,
-        label_attributes,
-        label_count,
-        label_starts,
-        label_ends,
-        attributes,
-        attribute_count,
-        attribute_starts,
-        attribute_ends,
         &kinds,
         &words,
         label,

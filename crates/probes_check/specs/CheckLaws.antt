@@ -1,6 +1,9 @@
--- One turn of each loop, and the ways out of the check and of the reading.
-use Rattle.std.specs.Prelude.{ℕ, ◌+◌, ◌<◌, Bool, true, false, ◌&&◌, List, ◌≡◌, length}
-use Rattle.std.proofs.Common.{add-one, arith}
+-- The test of all tallies, and the ways out of the check and of the reading.
+use Rattle.std.specs.Prelude.{ℕ, zero, suc, ◌<◌, ◌≤◌, Bool, true, false, ◌&&◌, List, [], ◌∷◌, ◌≡◌, length, get_or, take, refl}
+use Rattle.std.specs.List.{list_all}
+use Rattle.std.proofs.Common.{arith, take-suc}
+use Rattle.std.proofs.Math.Bool.{and-true}
+use Rattle.std.proofs.lemmas.List.Folds.{list_all-append}
 use borrow.Author.Tests.{eq-eqb, ne_eqb}
 use Rattle.terms.specs.Below.{every_below}
 use Rattle.store_definitions.specs.Answers.{done, refused, output}
@@ -10,11 +13,13 @@ use Rattle.probes_definitions.specs.Memory.{PointProbes, store_of}
 use Rattle.probes_definitions.specs.WellFormed.{eight_probes, tallies_within, probes_well_formed}
 use Rattle.probes_definitions.specs.Tallies.{probes_form_decided, tallies_spec}
 
--- ---- loops
+-- ---- a test of the first k entries
 
-pub every_more : (k : ℕ) (p : ℕ → Bool) → every_below (k + 1) p ≡ (every_below k p && p k)
+pub all_below : (p : ℕ → Bool) (xs : List ℕ) (k : ℕ) → k ≤ length xs → list_all p (take k xs) ≡ every_below k (λ j. p (get_or xs j 0))
 unfolding every_below
-every_more k p = rw (add-one k)
+all_below p xs zero h = refl
+all_below p xs (suc k) h =
+    rw (take-suc xs k 0 h, list_all-append p (take k xs) (get_or xs k 0 ∷ []), all_below p xs k (omega arith), and-true (p (get_or xs k 0))) refl
 
 -- ---- the check
 

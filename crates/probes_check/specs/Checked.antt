@@ -1,5 +1,5 @@
 -- What the check of a product answers: what is counted of the store of one that is well-formed, and of any other nothing.
-use Rattle.std.specs.Prelude.{ℕ, true, false, length, Option, Some, None, Ok, Err, ◌≡◌}
+use Rattle.std.specs.Prelude.{ℕ, ◌<◌, List, true, false, length, Option, Some, None, Ok, Err, ◌≡◌}
 use Rattle.std.specs.Bool.{then_some}
 use Rattle.std.specs.Option.{ok_or}
 use Rattle.std.proofs.Common.{refl, sym, ap, ◌∙◌}
@@ -9,11 +9,12 @@ use Rattle.store_definitions.specs.Memory.{Memory, point_store}
 use Rattle.store_definitions.specs.Lent.{lent}
 use Rattle.store_check.specs.declared.Figures.{Figures}
 use Rattle.store_check.specs.Figures.{FiguresOf}
-use Rattle.store_check.specs.Checked.{figures_if, figures_then, figures_some, figures_none, figures_ok, figures_err, checked, checked_figures, checked_some, checked_none}
+use Rattle.store_check.specs.Checked.{figures_if, figures_then, figures_some, figures_none, figures_ok, figures_err, checked, checked_figures, checked_lengths, checked_some, checked_none}
+use Rattle.store_check.specs.Tables.{tables_lent}
 use Rattle.probes_definitions.specs.declared.Probes.{Probes}
 use Rattle.probes_definitions.specs.Memory.{PointProbes, point_probes, store_of}
 use Rattle.probes_definitions.specs.WellFormed.{probes_well_formed}
-use Rattle.probes_check.specs.CheckLaws.{ill_store, own_tests, own_tests_lem}
+use Rattle.probes_check.specs.CheckLaws.{ill_store, shingle_positive, own_tests, own_tests_lem}
 
 unfoldable pub probes_checked : {E : Type 0} → PointProbes E → Option Figures
 probes_checked p = figures_if (store_of p) (probes_well_formed p)
@@ -46,6 +47,27 @@ module _ {E : Type 0} (p : PointProbes E) where
   by_tests f e g =
       figures_then (store_of p) (own_tests p) f (checked_figures (store_of p) f e)
       ∙ ap (figures_if (store_of p)) (own_tests_lem p (checked_some (store_of p) f e).0 g)
+
+-- the same of a store whose tables are lent as one value, and of whose floats the check sees how many there are
+module _ (r : Probes) (store window : List ℕ) (t : Tables) where
+  abbrev of_lent : PointProbes ℕ
+  of_lent = point_probes r (lent store window t)
+
+  abbrev store_checked : Option Figures
+  store_checked = checked (point_store r.store (tables_lent (length store) (length window) t))
+
+  same_store : store_checked ≡ checked (store_of of_lent)
+  same_store = checked_lengths r.store of_lent.memory
+
+  pub lent_ill : store_checked ≡ None → None ≡ probes_checked of_lent
+  lent_ill e = store_ill of_lent (sym same_store ∙ e)
+
+  module _ (f : Figures) (e : store_checked ≡ Some f) where
+    pub lent_shingle : 0 < r.store.shingle_size
+    lent_shingle = shingle_positive of_lent (checked_some (store_of of_lent) f (sym same_store ∙ e)).0
+
+    pub lent_tests : length r.tallies ≡ 8 → then_some (own_tests of_lent) f ≡ probes_checked of_lent
+    lent_tests g = by_tests of_lent f (sym same_store ∙ e) g
 
 -- what a call that writes learns of the product from the check of its slices, lent as one value
 module _ (r : Probes) (m : Memory ℕ) (t : Tables) (answer : Option Figures) (why : Refusal) (e : lent m.store m.last_known_shingle t ≡ m) (a : answer ≡ probes_checked (point_probes r (lent m.store m.last_known_shingle t))) where

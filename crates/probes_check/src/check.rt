@@ -11,6 +11,7 @@ use store_definitions::Tables;
 use terms::FloatBits;
 
 // Base 8 and internal shingling.
+#[tactic(auto, unfolding(probes_definitions::specs::WellFormed::eight_probes))]
 pub fn eight_probes(dimensions: usize, shingle_size: usize, internal_shingling: bool) -> bool
     requires { 0 < shingle_size }
     ensures { result ≡ eight_probes dimensions shingle_size internal_shingling }
@@ -22,15 +23,11 @@ pub fn eight_probes(dimensions: usize, shingle_size: usize, internal_shingling: 
 fn tallies_within(sequence: u32, tallies: [u32; 8]) -> bool
     ensures { (result ≡ tallies_within sequence tallies) × (length tallies ≡ 8) }
 {
-    let mut within = true;
-    for k in 0..8 {
-        within &= tallies[k] <= sequence;
-    }
-    within
+    tallies.iter().all(|tally| *tally <= sequence)
 }
 
 // What is counted of the store of a product that is well-formed.
-#[tactic(auto, using(crate::specs::Checked::store_ill))]
+#[tactic(auto, using(crate::specs::Checked::lent_ill, crate::specs::Checked::lent_tests))]
 pub fn check_probes(
     p: Probes,
     store: &[FloatBits],

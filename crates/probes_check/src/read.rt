@@ -11,6 +11,7 @@ use store_definitions::Tables;
 use terms::{FloatBits, Refusal};
 
 // The output has exactly eight entries.
+#[tactic(auto, using(crate::specs::CheckLaws::read_ill, crate::specs::CheckLaws::read_short, crate::specs::CheckLaws::read_whole, crate::specs::Checked::probes_checked_ok, crate::specs::Checked::probes_checked_err))]
 pub fn tallies(
     p: Probes,
     store: &[FloatBits],

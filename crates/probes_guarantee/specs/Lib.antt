@@ -4,3 +4,4 @@ pub mod History
 pub mod Guarantee
 pub mod StoreRun
 pub mod Ran
+pub mod Contracts

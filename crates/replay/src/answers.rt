@@ -9,6 +9,7 @@ use terms::Refusal;
 // 0 or the number of the refusal, and what the call gives.
 #[derive(PartialEq, Drop)]
 pub struct Answer {
+    // Kept: the record holds this number, so a Result would be turned into it for each line.
     pub value: usize,
     pub numbers: Vec<usize>,
 }
@@ -77,11 +78,17 @@ impl Answer {
         match answer {
             Ok(None) => Answer::given(alloc, &[0usize]),
             Ok(Some(kept)) => {
-                let (joined, place) = match kept.laid {
-                    Laid::Whole(place) => (0, place),
-                    Laid::Joined(place) => (1, place),
+                let joined = match kept.laid {
+                    Laid::Whole(_) => 0,
+                    Laid::Joined(_) => 1,
                 };
-                let numbers = [1, kept.index.0, written(kept.label.0), joined, place];
+                let numbers = [
+                    1,
+                    kept.index.0,
+                    written(kept.label.0),
+                    joined,
+                    kept.laid.place(),
+                ];
                 Answer::given(alloc, &numbers)
             }
             Err(why) => Ok(Answer::refused(alloc, why)),

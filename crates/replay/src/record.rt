@@ -90,28 +90,22 @@ impl Line {
     }
 
     pub fn pairs(&self, alloc: Global) -> Result<Vec<Pair>, AllocError> {
-        let mut pairs = Vec::new(alloc);
-        for four in self.numbers.chunks_exact(4) {
-            if let [inserted, its_label, deleted, other_label] = *four {
-                pairs.push(Pair {
-                    insert: change(inserted, its_label),
-                    delete: change(deleted, other_label),
-                })?;
-            }
-        }
-        Ok(pairs)
+        self.numbers
+            .chunks_exact(4)
+            .map(|four| Pair {
+                insert: change(four[0], four[1]),
+                delete: change(four[2], four[3]),
+            })
+            .collect(alloc)
     }
 
     pub fn items(&self, alloc: Global) -> Result<Vec<Item>, AllocError> {
-        let mut items = Vec::new(alloc);
-        for two in self.numbers.chunks_exact(2) {
-            if let [index, weight] = *two {
-                items.push(Item {
-                    index: PointIndex(read(index)),
-                    weight: read(weight),
-                })?;
-            }
-        }
-        Ok(items)
+        self.numbers
+            .chunks_exact(2)
+            .map(|two| Item {
+                index: PointIndex(read(two[0])),
+                weight: read(two[1]),
+            })
+            .collect(alloc)
     }
 }

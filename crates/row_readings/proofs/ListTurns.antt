@@ -1,26 +1,24 @@
 -- One turn of each loop over an index list.
-use Prim.Native.Nat.{ℕ, zero, suc, ◌+◌, ◌≤◌, ◌<◌}
+use Prim.Native.Nat.{ℕ, zero, suc, ◌+◌, ◌<◌}
 use native.Mathlib.Numerals.{add-one}
 use native.Mathlib.Omega.{arith}
-use mathlib.Core.Bool.{true, ◌&&◌}
+use mathlib.Core.Bool.{true}
 use mathlib.Core.List.{List, [], ◌∷◌, ◌++◌, map, map-append, append_assoc}
 use mathlib.Core.Path.{◌≡◌, refl, sym, ap, ◌∙◌}
 use lib.Dec.{ltb}
-use lib.ListN.{length, get_or, take, drop, set, drop_of_length-le}
-use lib.Seq.{drop-cons, take-suc, take-suc-set}
+use lib.ListN.{length, get_or, take, set}
+use lib.Seq.{take-suc, take-suc-set}
 use borrow.Author.Tests.{ltb-true}
+use Rattle.std.specs.List.{list_all}
 use Rattle.terms.specs.Below.{both}
 use Rattle.store_definitions.specs.IndexLists.{values_below, up_to}
 
--- what is left to be tested
 module _ (n : ℕ) where
-  pub below_turn : (vs : List ℕ) (i : ℕ) → i < length vs → values_below n (drop i vs) ≡ (ltb (get_or vs i 0) n && values_below n (drop (i + 1) vs))
+  -- every value is below n
+  pub below_all : (vs : List ℕ) → values_below n vs ≡ list_all (λ v. ltb v n) vs
   unfolding values_below
-  below_turn vs i h = rw (add-one, drop-cons vs i 0)
-
-  pub below_end : (vs : List ℕ) (i : ℕ) → length vs ≤ i → values_below n (drop i vs) ≡ true
-  unfolding values_below
-  below_end vs i h = rw (drop_of_length-le vs {i = i} h)
+  below_all [] = refl
+  below_all (v ∷ vs) = rw (below_all vs)
 
   -- each value of a list that passed
   pub below_at : (vs : List ℕ) → values_below n vs ≡ true → (i : ℕ) → i < length vs → get_or vs i 0 < n

@@ -4,3 +4,4 @@ pub mod Items
 pub mod Previews
 pub mod Shingled
 pub mod SumLaws
+pub mod RowSums

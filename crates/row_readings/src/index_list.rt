@@ -10,6 +10,9 @@ use terms::Refusal;
 
 const LARGEST_LOOK_AHEAD: usize = 65535;
 
+// Kept: no plainer: base stands as a quotient in each definition of these lists, and an answer would tell by its contract what
+// `Store::base` gives.
+// Kept: no plainer: that a store is `Shingled` is one fact in each contract, and a record already.
 #[tactic(auto, unfolding(store_definitions::specs::IndexLists::value_limit))]
 fn value_limit(s: Store) -> usize
     requires { Shingled s }
@@ -21,16 +24,10 @@ fn value_limit(s: Store) -> usize
     s.dimensions
 }
 
-// Which value is too large is not asked, so there is no early exit.
-#[tactic(auto, using(crate::proofs::ListTurns::below_turn, crate::proofs::ListTurns::below_end))]
 fn values_below(values: &[usize], limit: usize) -> bool
     ensures { result ≡ values_below limit values.now }
 {
-    let mut below = true;
-    for value in values {
-        below = below & (*value < limit);
-    }
-    below
+    values.iter().all(|value| *value < limit)
 }
 
 // Where value 0 stands; any other stands as far after it. Rotating, that is a multiple of base, so that no value passes the
@@ -55,8 +52,8 @@ fn move_values(first: usize, values: &[usize], out: &mut [usize])
     requires { (length out.old ≡ length values.now) × ((i : ℕ) → i < length values.now → first + get_or values.now i 0 < 2 ^ 64) }
     ensures { out.new ≡ map (λ v. first + v) values.now }
 {
-    for (i, value) in values.iter().enumerate() {
-        out[i] = first + *value;
+    for (i, entry) in out.iter_mut().enumerate() {
+        *entry = first + values[i];
     }
 }
 

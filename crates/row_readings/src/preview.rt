@@ -44,8 +44,7 @@ pub fn shingled_point_unchecked(
     if out.len() != dimensions {
         return Err(Refusal::Length);
     }
-    let base = dimensions / s.shingle_size;
-    if (point.len() == base) & (1 < s.shingle_size) {
+    if (point.len() == s.base()) & (1 < s.shingle_size) {
         if s.internal_shingling {
             show_window(
                 s.internal_rotation,

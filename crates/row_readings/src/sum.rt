@@ -47,9 +47,8 @@ fn add_item(s: Store, store: &[FloatBits], location: &[u16], item: Item, out: &m
     ensures { out.new ≡ add_scaled item.weight out.old (stored_row (point_store s (rows_alone store.now [] location.now)) item.index.0) }
 {
     let dimensions = s.dimensions;
-    let base = dimensions / s.shingle_size;
     let place = location[item.index.0] as usize;
-    let start = place * base;
+    let start = place * s.base();
     let end = start + dimensions;
     add_scaled(out, &store[start..end], item.weight);
 }

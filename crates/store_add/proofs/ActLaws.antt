@@ -27,7 +27,7 @@ use Rattle.labels.specs.Counted.{Counted, counted, free_indices, next_index, liv
 use Rattle.labels.specs.CountedLaws.{WellCounted}
 use Rattle.labels.specs.Decisions.{none}
 use Rattle.labels.specs.declared.LabelsFree.{LabelsFree}
-use Rattle.labels.specs.Forms.{held}
+use Rattle.labels.specs.Lent.{LabelLists, labels_of}
 use Rattle.labels.specs.Labels.{Labels, LabelTaken, label_taken}
 use Rattle.labels.specs.Sound.{sound_make as labels_sound_make}
 use Rattle.store_definitions.specs.declared.Kept.{Kept}
@@ -190,13 +190,13 @@ module _ (p : PointStore ℕ) (w : Sound p) (full : table_full p.header ≡ fals
       }
 
 -- a record with another extent
-module _ (s s' : Store) (r : Rows ℕ) (e : s' ≡ with_extent r.free r.store_length s) (labels label_attributes label_count label_starts label_ends attributes attribute_count attribute_starts attribute_ends : List ℕ) (code : ℕ) where
+module _ (s s' : Store) (r : Rows ℕ) (e : s' ≡ with_extent r.free r.store_length s) (l : LabelLists) (code : ℕ) where
   abbrev half : Store → Labels
-  half x = held (managers_of x) labels label_attributes label_count label_starts label_ends attributes attribute_count attribute_starts attribute_ends
+  half x = labels_of (managers_of x) l
 
   pub labelled_in : (free : LabelsFree) → (s.store_labels ≡ true → Labelled s (half s) code free) → s'.store_labels ≡ true → Labelled s' (half s') code free
   labelled_in free h =
-      rw e (λ on. let l = h on in record { well = l.well; coded = l.coded; some = l.some; figures = l.figures })
+      rw e (λ on. let k = h on in record { well = k.well; coded = k.coded; some = k.some; figures = k.figures })
 
   pub label_in : label_for s' (half s') code ≡ label_for s (half s) code
   unfolding label_for

@@ -9,10 +9,6 @@ use placement_rows::grown_length;
 use store_definitions::Store;
 use terms::Refusal;
 
-// Document 01: 'sequence number at 4,294,967,295'.
-// Kept: here it ends the adds; in `store_check` the same number is a clause of the record.
-const LAST_SEQUENCE: u32 = 4294967295;
-
 // What an add that is not refused does: it keeps its point, or it waits for more points of the shingle.
 #[derive(Clone, Copy, PartialEq, Eq, Debug)]
 pub enum AddStep {
@@ -26,7 +22,7 @@ fn point_length(s: Store) -> usize
     ensures { result ≡ point_length s }
 {
     if s.internal_shingling {
-        return s.dimensions / s.shingle_size;
+        return s.base();
     }
     s.dimensions
 }
@@ -41,6 +37,7 @@ fn still_waits(s: Store) -> bool
     false
 }
 
+// Kept: that the table is within the capacity is one comparison in three contracts: a record of it would be longer.
 // No index is free, and growth gives none.
 #[tactic(auto, unfolding(store_definitions::specs::Adding::table_full))]
 fn table_full(s: Store) -> bool
@@ -77,7 +74,8 @@ pub fn add_decision(s: Store, length: usize, code: usize) -> Result<AddStep, Ref
     if length != point_length(s) {
         return Err(Refusal::Length);
     }
-    if s.next_sequence_index == LAST_SEQUENCE {
+    // Document 01: 'sequence number at 4,294,967,295'.
+    if s.next_sequence_index == u32::MAX {
         return Err(Refusal::SequenceFull);
     }
     code_decision(s.store_labels, code)?;

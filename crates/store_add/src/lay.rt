@@ -33,7 +33,7 @@ pub fn lay_row(
     ensures answer { (result.laid ≡ laid_as s.dimensions (base_of s) joined start_free_region) × (result.start_free_region ≡ laid_free s.dimensions (base_of s) joined start_free_region) }
 {
     let dimensions = s.dimensions;
-    let base = dimensions / s.shingle_size;
+    let base = s.base();
     shift_window(s, window, point);
     let laid = row(window, point, s.internal_shingling, dimensions);
     lay(store, laid, dimensions, base, start_free_region, joined)

@@ -59,7 +59,7 @@ pub fn find_room<'a>(
     ensures answer { result ≡ joined_if_fits words_equal s.old (rows_in s.new store.new location.new) (row_from s.old window.now point.now) }
 {
     let dimensions = s.dimensions;
-    let base = dimensions / s.shingle_size;
+    let base = s.base();
     make_room(s, store, location);
     let joined = row_joins(
         store,

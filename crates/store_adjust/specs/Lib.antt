@@ -2,3 +2,4 @@ pub mod Pairs
 pub mod PairLaws
 pub mod Run
 pub mod Elements
+pub mod RowRun

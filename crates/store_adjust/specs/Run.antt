@@ -1,5 +1,5 @@
 -- The pairs of a list in order, from any of them on: what one pair leaves of the rest.
-use Rattle.std.specs.Prelude.{ℕ, suc, ◌+◌, ◌≤◌, ◌<◌, Bool, refl, length, get_or, drop, eqb}
+use Rattle.std.specs.Prelude.{ℕ, suc, ◌+◌, ◌≤◌, ◌<◌, Bool, length, get_or, drop, eqb}
 use Rattle.std.proofs.Common.{zero-le, add-one, add-one-le, arith, ◌∙◌, drop_of_length-le, drop-cons}
 use Rattle.std.proofs.Math.Bool.{true, false, cond}
 use mathlib.Core.List.{List, ◌∷◌}
@@ -7,7 +7,7 @@ use Rattle.std.proofs.Math.Path.{◌≡◌, sym, ap, ap₂}
 use Rattle.interval_store_manager.specs.Calls.{Decided, go, refuse}
 use Rattle.labels.specs.Decisions.{none}
 use Rattle.store_definitions.specs.declared.Pair.{Pair}
-use Rattle.store_definitions.specs.Memory.{Memory, PointStore}
+use Rattle.store_definitions.specs.Memory.{PointStore}
 use Rattle.store_definitions.specs.Answers.{done, refused, refused_after, Outcome, outcome}
 use Rattle.store_definitions.specs.Decisions.{carried_out}
 use Rattle.store_definitions.specs.Counting.{Pairing, pair_decided, pair_done, unless_refused, adjust_from, adjust_spec}
@@ -51,42 +51,9 @@ no_pair = record { insert = record { index = record { 0 = 0 }; label = record { 
 abbrev pub pair_at : List Pair → ℕ → Pair
 pair_at ps i = get_or ps i no_pair
 
--- the tables are as long as those
-pub record Same {E : Type 0} (m k : Memory E) : Type 0 where
-  pub counts : length m.reference_count ≡ length k.reference_count
-  pub location : length m.location ≡ length k.location
-  pub starts : length m.index_starts ≡ length k.index_starts
-  pub ends : length m.index_ends ≡ length k.index_ends
-  pub label_counts : length m.label_count ≡ length k.label_count
-  pub label_starts : length m.label_starts ≡ length k.label_starts
-  pub label_ends : length m.label_ends ≡ length k.label_ends
-  pub slot_counts : length m.attribute_count ≡ length k.attribute_count
-  pub slot_starts : length m.attribute_starts ≡ length k.attribute_starts
-  pub slot_ends : length m.attribute_ends ≡ length k.attribute_ends
-
-same_refl : {E : Type 0} (m : Memory E) → Same m m
-same_refl m =
-    record { counts = refl; location = refl; starts = refl; ends = refl; label_counts = refl; label_starts = refl; label_ends = refl; slot_counts = refl; slot_starts = refl; slot_ends = refl }
-
-same_trans : {E : Type 0} (l m k : Memory E) → Same l m → Same m k → Same l k
-same_trans l m k f g =
-    record {
-      counts = f.counts ∙ g.counts;
-      location = f.location ∙ g.location;
-      starts = f.starts ∙ g.starts;
-      ends = f.ends ∙ g.ends;
-      label_counts = f.label_counts ∙ g.label_counts;
-      label_starts = f.label_starts ∙ g.label_starts;
-      label_ends = f.label_ends ∙ g.label_ends;
-      slot_counts = f.slot_counts ∙ g.slot_counts;
-      slot_starts = f.slot_starts ∙ g.slot_starts;
-      slot_ends = f.slot_ends ∙ g.slot_ends;
-    }
-
 -- where the loop stands: the pairs from i on, from here, come to what all of them come to from the start
 pub record State {E : Type 0} (pairs : List Pair) (p₀ p : PointStore E) (i : ℕ) : Type 0 where
   pub bound : i ≤ length pairs
-  pub same : Same p.memory p₀.memory
   pub formed : well_formed p ≡ true
   pub run : adjust_from i (pairings_of (drop i pairs)) p ≡ adjust_spec p₀ (pairings_of pairs)
 
@@ -95,7 +62,7 @@ unfolding adjust_spec
 spec_well p qs f = rw (well p f)
 
 pub start : {E : Type 0} (pairs : List Pair) (p : PointStore E) → well_formed p ≡ true → State pairs p p 0
-start pairs p f = record { bound = zero-le; same = same_refl p.memory; formed = f; run = spec_well p (pairings_of pairs) f }
+start pairs p f = record { bound = zero-le; formed = f; run = spec_well p (pairings_of pairs) f }
 
 module _ {E : Type 0} (pairs : List Pair) (p₀ p : PointStore E) (i : ℕ) (f : State pairs p₀ p i) where
   module _ (h : i < length pairs) (o : Outcome E) (e : o ≡ pair_spec p (pairing_of (pair_at pairs i))) where
@@ -106,11 +73,10 @@ module _ {E : Type 0} (pairs : List Pair) (p₀ p : PointStore E) (i : ℕ) (f :
     pub stop : (k : ℕ) → o.answer ≡ refused k → outcome (refused_after k i) o.after ≡ adjust_spec p₀ (pairings_of pairs)
     stop k a = sym (last_pair p (pairing_of (pair_at pairs i)) (pairings_of (drop (suc i) pairs)) i o e k a) ∙ unrolled
 
-    pub next : o.answer ≡ done → Same o.after.memory p.memory → State pairs p₀ o.after (i + 1)
-    next a s =
+    pub next : o.answer ≡ done → State pairs p₀ o.after (i + 1)
+    next a =
         record {
           bound = add-one-le h;
-          same = same_trans o.after.memory p.memory p₀.memory s f.same;
           formed = ap (λ (x : Outcome E). well_formed x.after) e ∙ pair_keeps p (pairing_of (pair_at pairs i)) f.formed;
           run = rw (add-one i) (sym (next_pair p (pairing_of (pair_at pairs i)) (pairings_of (drop (suc i) pairs)) i o e a) ∙ unrolled);
         }

@@ -1,23 +1,34 @@
 -- Places marked one after another: which are marked, and that a place marked already stands at an earlier index.
-use Prim.Native.Nat.{ℕ, zero, suc, ◌+◌, ◌<◌}
+use Prim.Native.Nat.{ℕ, zero, suc, ◌+◌, ◌<◌, ◌≤◌}
 use native.Mathlib.Decide.{ℕ_discrete}
 use native.Mathlib.Numerals.{add-one}
 use mathlib.Core.List.{List}
 use mathlib.Core.Bool.{Bool, true, false, ◌&&◌, ◌||◌, not, or-true, or-false, and-true}
 use mathlib.Core.Path.{◌≡◌, refl, sym, ◌∙◌, ap}
-use lib.ListN.{length, get_or, replicate}
-use lib.Seq.{get_or-set_same, get_or-set_other}
+use lib.ListN.{length, get_or, take}
+use lib.Seq.{get_or-set_same, get_or-set_other, get_or-take}
+use native.Mathlib.Omega.{arith}
+use Rattle.std.proofs.lemmas.List.{length-take-le}
 use lib.Dec.{eqb}
 use borrow.Author.Tests.{eq-eqb, ne_eqb}
 use Rattle.terms.specs.Below.{every_below}
 use Rattle.store_definitions.specs.WellFormed.{places_distinct}
 use Rattle.store_check.specs.Entries.{stands, place_met, place_marked, NoneMarked}
+use Rattle.label_check.specs.LabelPass.{every_same}
 
--- a list of `false` marks nothing
-pub none_marked : (n : ℕ) → NoneMarked (replicate n false)
-none_marked zero q = refl
-none_marked (suc n) zero = refl
-none_marked (suc n) (suc q) = none_marked n q
+apart : List ℕ → ℕ → ℕ → Bool
+apart location i j = not (eqb (get_or location i 65535) (get_or location j 65535)) || eqb (get_or location i 65535) 65535
+
+-- the first n entries, cut out
+module _ (n : ℕ) (location : List ℕ) (lent : n ≤ length location) where
+  pub part_distinct : places_distinct (length (take n location)) (take n location) ≡ places_distinct n location
+  unfolding places_distinct apart
+  part_distinct =
+      rw (length-take-le n location lent)
+      (every_same n (λ i. every_below i (apart (take n location) i)) (λ i. every_below i (apart location i))
+      (λ i l.
+      every_same i (apart (take n location) i) (apart location i)
+      (λ j m. rw (get_or-take n location i 65535 l, get_or-take n location j 65535 (omega arith)) refl)))
 
 -- the places of the first i entries are marked, and no others
 abbrev pub PlacesMarked : ℕ → List ℕ → List Bool → Type 0

@@ -1,5 +1,5 @@
 -- What the check answers: what is counted of a store that is well-formed, and of any other nothing.
-use Rattle.std.specs.Prelude.{ℕ, Bool, true, false, cond, length, Option, Some, None, Ok, Err, ◌≡◌}
+use Rattle.std.specs.Prelude.{ℕ, Bool, true, false, List, cond, length, Option, Some, None, Ok, Err, ◌≡◌}
 use Rattle.std.proofs.Common.{refl, sym, ap, ◌∙◌, subst}
 use Rattle.terms.specs.declared.Refusal.{Refusal}
 use Rattle.std.specs.Bool.{then_some}
@@ -8,7 +8,9 @@ use Rattle.label_check.specs.Checked.{free_in}
 use Rattle.store_definitions.specs.declared.Store.{Store}
 use Rattle.store_definitions.specs.declared.tables.Tables.{Tables}
 use Rattle.store_definitions.specs.Memory.{Memory, PointStore, point_store}
-use Rattle.store_definitions.specs.Lent.{lent}
+use Rattle.store_definitions.specs.Lent.{lent, memory, PointLists, read_as}
+use Rattle.labels.specs.declared.tables.LabelTables.{LabelTables}
+use Rattle.labels.specs.Lent.{LabelLists, lists_lent}
 use Rattle.store_definitions.specs.Parts.{table_length, label_half}
 use Rattle.store_definitions.specs.WellFormed.{well_formed}
 use Rattle.store_check.specs.declared.Figures.{Figures}
@@ -105,3 +107,14 @@ module _ (s : Store) (m : Memory ℕ) (t : Tables) (answer : Option Figures) (wh
 
   pub lent_failed : (other : Refusal) → ok_or answer why ≡ Err other → (well_formed (point_store s m) ≡ false) × (other ≡ why)
   lent_failed other o = check_failed s m answer why (lent_checked s m t answer e a) other o
+
+-- and of tables that a form of the lent slices hands to the check
+module _ (s : Store) (store window : List ℕ) (p : PointLists) (x : LabelLists) (l : LabelTables) (l_is : lists_lent l ≡ x) (t : Tables) (t_is : (store window : List ℕ) → lent store window t ≡ memory store window p (lists_lent l)) (answer : Option Figures) (why : Refusal) (a : answer ≡ checked (point_store s (tables_lent (length store) (length window) t))) where
+  abbrev read : Memory ℕ
+  read = memory store window p x
+
+  pub read_passed : (f : Figures) → ok_or answer why ≡ Ok f → (well_formed (point_store s read) ≡ true) × FiguresOf f (point_store s read)
+  read_passed f o = lent_passed s read t answer why (read_as t p l x t_is l_is store window) a f o
+
+  pub read_failed : (other : Refusal) → ok_or answer why ≡ Err other → (well_formed (point_store s read) ≡ false) × (other ≡ why)
+  read_failed other o = lent_failed s read t answer why (read_as t p l x t_is l_is store window) a other o

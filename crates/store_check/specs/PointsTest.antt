@@ -1,5 +1,5 @@
 -- The points' half of well-formedness over the lists that it reads, and what the pass over them relies on.
-use Rattle.std.specs.Prelude.{ℕ, ◌≤◌, List, Bool, true, false, Some, None, ◌&&◌, ◌≡◌, refl, length}
+use Rattle.std.specs.Prelude.{ℕ, ◌≤◌, List, Bool, true, false, Option, Some, None, is_some, IfSome, ◌&&◌, ◌≡◌, refl, length}
 use Rattle.std.specs.Bool.{then_some}
 use Rattle.std.proofs.Common.{sym, ap, ap₂, ◌∙◌}
 use Rattle.std.proofs.lemmas.Option.{none-some, same_Some}
@@ -9,6 +9,7 @@ use Rattle.store_definitions.specs.declared.Store.{Store}
 use Rattle.store_definitions.specs.Parts.{table_length}
 use Rattle.store_definitions.specs.Bounds.{bounds_hold}
 use Rattle.store_definitions.specs.WellFormed.{empty_uncounted, places_distinct, places_end}
+use Rattle.store_check.specs.declared.table.TableChecked.{TableChecked}
 use Rattle.store_check.specs.Entries.{counts_live, PlacesBelow}
 
 -- the clauses in the order in which the check asks them
@@ -71,3 +72,8 @@ pub record TableFound (s : Store) (counts location : List ℕ) (live limit : ℕ
   pub live_is : live ≡ counts_live (table_length s) counts
   pub limit_most : limit ≤ 16384
   pub places_below : PlacesBelow limit (table_length s) location
+
+-- what the pass answers: whether the table's test holds and, where it does, what is found
+abbrev pub TableTold : Store → (counts location starts ends : List ℕ) → Option TableChecked → Type 0
+TableTold s counts location starts ends table =
+    (is_some table ≡ table_test s counts location starts ends) × IfSome table (λ t. TableFound s counts location t.live t.limit)

@@ -21,7 +21,6 @@ pub fn free_start_well(s: Store) -> bool
     ensures { result ≡ free_start_well s }
 {
     let free = s.start_free_region;
-    let base = s.dimensions / s.shingle_size;
     let started = (free == 0) | (s.dimensions <= free);
-    (free % base == 0) & (started & (free <= s.store_length))
+    (free % s.base() == 0) & (started & (free <= s.store_length))
 }

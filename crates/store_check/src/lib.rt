@@ -14,7 +14,7 @@ mod table;
 
 pub use bounds::{bounds_hold, free_start_well};
 use label_check::labels_well_formed;
-use labels::{LabelManagers, LabelsFree};
+use labels::LabelsFree;
 pub use points::places_distinct;
 pub use record::{Lengths, lengths_of, record_well};
 use store_definitions::{Store, Tables};
@@ -50,15 +50,11 @@ pub fn check(s: Store, floats: usize, window: usize, tables: Tables) -> Option<F
         tables.index_starts,
         tables.index_ends,
     )?;
-    let managers = LabelManagers {
-        label_manager: s.label_manager,
-        attribute_manager: s.attribute_manager,
-    };
     let free = labels_well_formed(
         s.store_labels,
         &s.classes,
         s.capacity,
-        managers,
+        s.label_managers(),
         tables.label_tables,
     )?;
     Some(Figures { live, free })

@@ -6,10 +6,6 @@ use crate::bounds::{bounds_hold, free_start_well};
 use class_table::table_allowed;
 use store_definitions::Store;
 
-// Every `u32` is at most this; the clause stands with the others, and the compiler leaves it out.
-// Kept: here it is a clause of the record; in `store_add` the same number ends the adds.
-const LAST_SEQUENCE: u32 = 4294967295;
-
 // How many entries the lent slices of the rows and of the points have.
 #[derive(Clone, Copy)]
 pub struct Lengths {
@@ -56,7 +52,8 @@ fn numbers_well(s: Store, lent: Lengths) -> bool
         let stack = (capacity <= lent.starts) & (capacity <= lent.ends);
         let within = (s.index_manager.capacity <= capacity) & (s.store_length <= floats);
         let started = free_start_well(s);
-        let numbered = (s.next_sequence_index <= LAST_SEQUENCE) & started;
+        // Document 01: 'The sequence is at most 4,294,967,295.' Every `u32` is, and the compiler leaves it out.
+        let numbered = (s.next_sequence_index <= u32::MAX) & started;
         return rows & (entries & (stack & (within & numbered)));
     }
     false

@@ -1,9 +1,9 @@
 // The points' table: its manager and its entries, in one pass each, and then its places.
 ghost use Rattle.std.specs.Bool.{then_some};
-ghost use Rattle.std.specs.Prelude.{is_some, IfSome, ◌≡◌, ◌≤◌, length};
+ghost use Rattle.std.specs.Prelude.{◌≡◌, ◌≤◌, length};
 ghost use Rattle.interval_store_manager.specs.Marks.{Unmarked};
 ghost use Rattle.store_check.specs.Entries.{counts_live};
-ghost use Rattle.store_check.specs.PointsTest.{points_test, table_test, PointsReady, TableFound};
+ghost use Rattle.store_check.specs.PointsTest.{points_test, PointsReady, TableTold};
 ghost use Rattle.store_definitions.specs.Parts.{table_length};
 
 use crate::points::{entries_well, place_limit, places_distinct};
@@ -18,6 +18,7 @@ pub struct TableChecked {
     pub limit: usize,
 }
 
+// Kept: the four slices go one by one, in a hold's check too: `Tables` has nine more that no test here reads, and four alone would serve one call.
 // With marks for the free indices.
 fn marked_well(
     s: Store,
@@ -28,12 +29,11 @@ fn marked_well(
     marks: &mut [u8],
 ) -> Option<TableChecked>
     requires { PointsReady s reference_count.now location.now × ((table_length s ≤ length marks.old) × Unmarked marks.old) }
-    ensures { (is_some result ≡ table_test s reference_count.now location.now index_starts.now index_ends.now) × IfSome result (λ table. TableFound s reference_count.now location.now table.live table.limit) }
+    ensures { TableTold s reference_count.now location.now index_starts.now index_ends.now result }
 {
     let manager = s.index_manager;
     let n = manager.capacity;
-    let base = s.dimensions / s.shingle_size;
-    let limit = place_limit(base, s.dimensions, s.start_free_region);
+    let limit = place_limit(s.base(), s.dimensions, s.start_free_region);
     if let Some(free) = mark_free(manager, index_starts, index_ends, marks) {
         if entries_well(n, limit, marks, reference_count, location) {
             return Some(TableChecked {
@@ -53,7 +53,7 @@ fn well_in<const N: usize>(
     index_ends: &[u16],
 ) -> Option<TableChecked>
     requires { (N ≤ 1024) × (PointsReady s reference_count.now location.now × (table_length s ≤ N)) }
-    ensures { (is_some result ≡ table_test s reference_count.now location.now index_starts.now index_ends.now) × IfSome result (λ table. TableFound s reference_count.now location.now table.live table.limit) }
+    ensures { TableTold s reference_count.now location.now index_starts.now index_ends.now result }
 {
     let mut marks = [0u8; N];
     marked_well(
@@ -75,7 +75,7 @@ pub fn table_well(
     index_ends: &[u16],
 ) -> Option<TableChecked>
     requires { PointsReady s reference_count.now location.now }
-    ensures { (is_some result ≡ table_test s reference_count.now location.now index_starts.now index_ends.now) × IfSome result (λ table. TableFound s reference_count.now location.now table.live table.limit) }
+    ensures { TableTold s reference_count.now location.now index_starts.now index_ends.now result }
 {
     if s.index_manager.capacity <= 64 {
         return well_in::<64>(s, reference_count, location, index_starts, index_ends);
@@ -95,5 +95,6 @@ pub fn points_well(
     ensures { result ≡ then_some (points_test s reference_count.now location.now index_starts.now index_ends.now) (counts_live (table_length s) reference_count.now) }
 {
     let table = table_well(s, reference_count, location, index_starts, index_ends)?;
-    places_distinct(s.index_manager.capacity, table.limit, location).then_some(table.live)
+    let places = &location[..s.index_manager.capacity];
+    places_distinct(table.limit, places).then_some(table.live)
 }

@@ -3,7 +3,7 @@ use Rattle.std.specs.Prelude.{ℕ, ◌+◌, ◌≤◌, ◌<◌, Bool, true, fals
 use Rattle.std.proofs.Common.{arith, ◌∙◌, eq-eqb, ne_eqb}
 use Rattle.std.proofs.Math.Bool.{cond}
 use mathlib.Core.List.{List}
-use Rattle.std.proofs.Math.Path.{sym, ap}
+use Rattle.std.proofs.Math.Path.{refl, sym, ap}
 use Rattle.std.proofs.lemmas.Bool.{eqb-false}
 use Rattle.std.specs.Option.{ok_or}
 use Rattle.terms.specs.declared.Refusal.{Refusal}
@@ -12,7 +12,7 @@ use Rattle.terms.specs.Refusals.{number}
 use Rattle.interval_store_manager.specs.Calls.{go, decision_means}
 use Rattle.labels.specs.Counted.{Counted, counted, raised, lowered}
 use Rattle.labels.specs.Decisions.{inc_decided, dec_decided}
-use Rattle.labels.specs.Forms.{InUse, LiveLabel}
+use Rattle.labels.specs.Forms.{InUse, LiveLabel, one_more, raisable}
 use Rattle.labels.specs.Labels.{Labels, label_raised, label_lowered}
 use Rattle.labels.specs.Sound.{sound_make as labels_sound_make}
 use Rattle.store_definitions.specs.declared.Store.{Store}
@@ -28,7 +28,7 @@ use Rattle.store_laws.specs.IllFormedLaws.{inc_ill, dec_ill}
 use Rattle.store_check.specs.declared.Figures.{Figures}
 use Rattle.store_check.specs.CheckLaws.{elementless}
 use Rattle.store_check.specs.Checked.{checked, check_failed}
-use Rattle.store_counts.specs.Tables.{counts_alone, emptied}
+use Rattle.store_counts.specs.Tables.{Raisable, counts_alone, emptied, with_counts}
 use Rattle.store_counts.specs.TestLaws.{inc_test_alone, dec_test_alone}
 use Rattle.store_counts.specs.ReadingLaws.{well}
 
@@ -77,6 +77,14 @@ module _ {E : Type 0} (p : PointStore E) where
             less (get_or p.memory.label_count l 0) (w.count_most l u.0.below) u.1,
           )
 
+      pub inc_raisable : Raisable p.header.store_labels counts p.memory.label_attributes p.memory.label_count p.memory.attribute_count i l
+      inc_raisable =
+          record {
+            point_lent = inc_within;
+            point_room = inc_room (omega (arith, (sound p f).counts_most i (touch_go p i inc_parts.0).0));
+            labels = λ on. raisable p.header.classes p.header.capacity (label_half p) l (inc_label_ready on).0 (inc_label_ready on).1;
+          }
+
     module _ (i l : ℕ) (t : dec_test p i l ≡ go) where
       dec_parts : (touch_decided p i ≡ go) × (dec_decided p.header.store_labels p.header.capacity p.memory.label_count l ≡ go)
       unfolding dec_test
@@ -110,6 +118,21 @@ module _ {E : Type 0} (p : PointStore E) where
     inc_on e h g =
         let q = with_points raised_point p.memory.location p in
         ap (λ (x : Labels). with_labels x q) g ∙ sym (ap (λ (b : Bool). cond b (with_labels (label_raised (label_half p) l) q) q) e)
+
+    -- by what is left in the three lists
+    abbrev labels_more : List ℕ
+    labels_more = one_more p.memory.label_count l
+
+    abbrev slots_more : List ℕ
+    slots_more = one_more p.memory.attribute_count (get_or p.memory.label_attributes l 0)
+
+    pub inc_done : (points labels slots : List ℕ) → points ≡ one_more counts i → labels ≡ cond p.header.store_labels labels_more p.memory.label_count → slots ≡ cond p.header.store_labels slots_more p.memory.attribute_count → with_counts points labels slots p ≡ incremented p i l
+    unfolding label_raised raised
+    inc_done points labels slots a b d = rw (a, b, d) (split p.header.store_labels refl)
+      where
+        split : (on : Bool) → p.header.store_labels ≡ on → with_counts (one_more counts i) (cond on labels_more p.memory.label_count) (cond on slots_more p.memory.attribute_count) p ≡ incremented p i l
+        split true e = inc_on e (label_raised (label_half p) l) refl
+        split false e = inc_off e
 
     module _ (t : Counted) (a : t ≡ lowered (point_table p) i) (location : List ℕ) (b : location ≡ emptied counts p.memory.location i) where
       pub dec_off : p.header.store_labels ≡ false → with_points t location p ≡ decremented p i l

@@ -6,25 +6,15 @@ ghost use Rattle.store_definitions.specs.Decisions.{live, refuse_if};
 ghost use Rattle.store_definitions.specs.Memory.{point_store};
 ghost use Rattle.store_counts.specs.Tables.{counts_alone};
 
-use store_definitions::Store;
-use terms::{LabelIndex, PointIndex, Refusal};
-
-// Document 01: 'inc of a point or label count at 65,535'.
-// Kept: the label's largest count stands in `labels`, in the type of its own comparison; they are two bounds of one number.
-const LARGEST_COUNT: usize = 65535;
-
-// A point's count, 0 past the end of the lent slice: as the definitions read a list.
-pub fn point_count(reference_count: &[u16], index: PointIndex) -> usize
-    ensures { result ≡ get_or reference_count.now index.0 0 }
-{
-    reference_count.get(index.0).copied().unwrap_or(0) as usize
-}
+use labels::{LARGEST_COUNT, entry};
+use store_definitions::{Change, Store};
+use terms::{PointIndex, Refusal};
 
 #[tactic(auto, using(crate::specs::TestLaws::in_use_below, crate::specs::TestLaws::in_use_beyond))]
 pub fn point_in_use(s: Store, reference_count: &[u16], index: PointIndex) -> bool
     ensures { result ≡ live (point_store s (counts_alone reference_count.now [])) index.0 }
 {
-    (index.0 < s.index_manager.capacity) && (0 < point_count(reference_count, index))
+    (index.0 < s.index_manager.capacity) && (0 < entry(reference_count, index.0, 0))
 }
 
 #[tactic(auto, using(crate::specs::TestLaws::inc_counted, crate::specs::TestLaws::inc_label_refused, crate::specs::TestLaws::inc_dead))]
@@ -32,23 +22,22 @@ pub fn inc_test(
     s: Store,
     reference_count: &[u16],
     label_count: &[u16],
-    index: PointIndex,
-    label: LabelIndex,
+    change: Change,
 ) -> Result<(), Refusal>
-    ensures { decision_means result ≡ inc_test (point_store s (counts_alone reference_count.now label_count.now)) index.0 label.0 }
+    ensures { decision_means result ≡ inc_test (point_store s (counts_alone reference_count.now label_count.now)) change.index.0 change.label.0 }
 {
-    if !point_in_use(s, reference_count, index) {
+    if !point_in_use(s, reference_count, change.index) {
         return Err(Refusal::PointNotInUse);
     }
-    labels::inc_decision(s.store_labels, s.capacity, label_count, label)?;
-    room_to_count(reference_count, index)
+    labels::inc_decision(s.store_labels, s.capacity, label_count, change.label)?;
+    room_to_count(reference_count, change.index)
 }
 
 // Whether a point's count may rise.
 fn room_to_count(reference_count: &[u16], index: PointIndex) -> Result<(), Refusal>
     ensures { decision_means result ≡ refuse_if (eqb (get_or reference_count.now index.0 0) 65535) 7 }
 {
-    if point_count(reference_count, index) == LARGEST_COUNT {
+    if entry(reference_count, index.0, 0) == LARGEST_COUNT {
         return Err(Refusal::CountFull);
     }
     Ok(())
@@ -59,13 +48,12 @@ pub fn dec_test(
     s: Store,
     reference_count: &[u16],
     label_count: &[u16],
-    index: PointIndex,
-    label: LabelIndex,
+    change: Change,
 ) -> Result<(), Refusal>
-    ensures { decision_means result ≡ dec_test (point_store s (counts_alone reference_count.now label_count.now)) index.0 label.0 }
+    ensures { decision_means result ≡ dec_test (point_store s (counts_alone reference_count.now label_count.now)) change.index.0 change.label.0 }
 {
-    if !point_in_use(s, reference_count, index) {
+    if !point_in_use(s, reference_count, change.index) {
         return Err(Refusal::PointNotInUse);
     }
-    labels::dec_decision(s.store_labels, s.capacity, label_count, label)
+    labels::dec_decision(s.store_labels, s.capacity, label_count, change.label)
 }

@@ -1,8 +1,6 @@
 // The calls that count: one more or one less of a point and of its label, and the readings of a count, of the number of live
 // points and of the free start. Each takes any store and any memory, and checks them first; under inc and dec stand the same
 // for callers that have checked.
-// Kept: the slices of inc and dec are parameters, since the C interface lends a call as `&mut` only what it writes, and slices that come
-// back in a struct have names of the checker's own in the proofs.
 #![tactic(auto)]
 
 mod decide;

@@ -5,7 +5,8 @@ ghost use Rattle.store_definitions.specs.Counting.{count_spec, live_number_spec,
 ghost use Rattle.store_definitions.specs.Lent.{lent};
 ghost use Rattle.store_definitions.specs.Memory.{point_store};
 
-use crate::decide::{point_count, point_in_use};
+use crate::decide::point_in_use;
+use labels::entry;
 use store_check::check;
 use store_definitions::{Store, Tables};
 use terms::{FloatBits, PointIndex, Refusal};
@@ -24,7 +25,7 @@ pub fn count(
     if !point_in_use(s, tables.reference_count, index) {
         return Err(Refusal::PointNotInUse);
     }
-    Ok(point_count(tables.reference_count, index))
+    Ok(entry(tables.reference_count, index.0, 0) as usize)
 }
 
 #[tactic(auto, using(crate::specs::ReadingLaws::live_number_refused, crate::specs::ReadingLaws::live_number_read))]

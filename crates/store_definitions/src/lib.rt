@@ -2,10 +2,18 @@
 // stands in the crates above, and its contracts cite these definitions.
 #![tactic(auto)]
 
+ghost use Rattle.std.specs.Prelude.{◌≡◌, ◌<◌};
+ghost use Rattle.store_definitions.specs.Parts.{base_of};
+
+mod points;
+mod raising;
 mod tables;
 
 use interval_store_manager::IntervalStoreManager;
+use labels::LabelManagers;
 use placement::Laid;
+pub use points::PointTables;
+pub use raising::PointRaising;
 pub use tables::Tables;
 use terms::{LabelIndex, PointIndex, Refusal};
 
@@ -30,6 +38,25 @@ pub struct Store {
     pub classes: [u8; 24],
 }
 
+impl Store {
+    // How many words each of the shingle's points has.
+    pub fn base(self) -> usize
+        requires { 0 < self.shingle_size }
+        ensures { result ≡ base_of self }
+    {
+        self.dimensions / self.shingle_size
+    }
+
+    pub fn label_managers(self) -> LabelManagers
+        ensures { result ≡ record { label_manager = self.label_manager; attribute_manager = self.attribute_manager } }
+    {
+        LabelManagers {
+            label_manager: self.label_manager,
+            attribute_manager: self.attribute_manager,
+        }
+    }
+}
+
 // What opening takes besides the memory.
 #[derive(Clone, Copy)]
 pub struct Shape {
@@ -47,6 +74,7 @@ pub struct Shape {
 #[derive(Clone, Copy)]
 pub struct Kept {
     pub index: PointIndex,
+    // Kept: with labels off NONE: a dec takes the number and C is lent it, so an Option would be turned into it at each.
     pub label: LabelIndex,
     pub laid: Laid,
     pub free_indices: usize,

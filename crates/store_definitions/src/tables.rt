@@ -1,9 +1,14 @@
-// The lent tables of a store as a call that reads them gets them: all that is lent but the floats and the window.
+// The lent tables of a store: all that is lent but the floats and the window, which only what moves elements takes. A call that writes gets
+// the points' half as `PointTables` or `PointRaising`, and the label half beside it, by what it writes there.
+// Kept: floats, window, points and labels are parameters of their own: a struct that holds a second one is not known after a call, and a
+// flat one would be a form for each call besides. So are floats, window and tables of a reading: each caller would put the three
+// together for one call, and the check would take them apart, since it sees of floats and window how many there are.
 ghost use Rattle.std.specs.Prelude.{ℕ, List, ◌≡◌};
 ghost use Rattle.store_definitions.specs.Lent.{held, lent};
 
 use labels::LabelTables;
 
+// As a call that reads gets them.
 #[derive(Clone, Copy)]
 pub struct Tables<'a> {
     pub reference_count: &'a [u16],
@@ -14,7 +19,7 @@ pub struct Tables<'a> {
 }
 
 impl<'a> Tables<'a> {
-    // For a call that writes some of the slices: here all of them are lent for as long as the check reads them.
+    // From the slices as C lends them, and for a call that writes only some: here all are lent for as long as the check reads them.
     pub fn new(
         reference_count: &'a [u16],
         location: &'a [u16],

@@ -1,71 +1,42 @@
 // What an opening writes into the lent tables: the entries that a fresh store has in use, and nothing past them.
-ghost use Rattle.std.specs.Prelude.{true, ◌≡◌, ◌-◌, set};
+ghost use Rattle.std.specs.Prelude.{true, ◌≡◌};
 ghost use Rattle.label_opening.specs.OpeningLaws.{LabelsOpenable};
-ghost use Rattle.labels.specs.Forms.{held};
-ghost use Rattle.labels.specs.Opening.{Openable};
-ghost use Rattle.store_rows.specs.Openings.{PointsReady, points, points_opened, label_managers, labels_opened_if};
+ghost use Rattle.labels.specs.Lent.{SameWriting, labels_writing};
+ghost use Rattle.store_definitions.specs.Lent.{SamePoints, points_lent};
+ghost use Rattle.store_rows.specs.Openings.{PointsReady, points_in, points_opened, label_managers, labels_opened_if};
 
 use interval_store_manager::IntervalStoreManager;
-use store_definitions::Shape;
+use labels::LabelWriting;
+use store_definitions::{PointTables, Shape};
 use terms::{EMPTY_PLACE, FloatBits};
-
-// A manager's stack with all indices free. Under what is required the manager's own opening refuses nothing.
-fn open_stack(capacity: usize, starts: &mut [u16], ends: &mut [u16])
-    requires { Openable capacity starts.old ends.old }
-    ensures { (starts.new ≡ set starts.old 0 0) × (ends.new ≡ set ends.old 0 (capacity - 1)) }
-{
-    let _ = IntervalStoreManager::new(capacity, starts, ends);
-}
 
 pub fn open_points(
     shape: Shape,
     store: &mut [FloatBits],
     last_known_shingle: &mut [FloatBits],
-    reference_count: &mut [u16],
-    location: &mut [u16],
-    index_starts: &mut [u16],
-    index_ends: &mut [u16],
+    tables: &mut PointTables,
 )
-    requires { PointsReady shape (points store.old last_known_shingle.old reference_count.old location.old index_starts.old index_ends.old) }
-    ensures { points store.new last_known_shingle.new reference_count.new location.new index_starts.new index_ends.new ≡ points_opened shape (points store.old last_known_shingle.old reference_count.old location.old index_starts.old index_ends.old) }
+    requires { PointsReady shape (points_in store.old last_known_shingle.old (points_lent tables.old)) }
+    ensures same { SamePoints tables.old tables.new }
+    ensures opened { points_in store.new last_known_shingle.new (points_lent tables.new) ≡ points_opened shape (points_in store.old last_known_shingle.old (points_lent tables.old)) }
 {
     let start = shape.initial_capacity;
     store[..start * shape.dimensions].fill(0);
     last_known_shingle[..shape.dimensions].fill(0);
-    reference_count[..start].fill(0);
-    location[..start].fill(EMPTY_PLACE);
-    open_stack(start, index_starts, index_ends);
+    let counts = &mut *tables.reference_count;
+    counts[..start].fill(0);
+    let places = &mut *tables.location;
+    places[..start].fill(EMPTY_PLACE);
+    let _ = IntervalStoreManager::new_unchecked(start, tables.index_starts, tables.index_ends);
 }
 
 // With labels off nothing is written.
-pub fn open_labels(
-    store_labels: bool,
-    capacity: usize,
-    labels: &mut [u8],
-    label_attributes: &mut [u16],
-    label_count: &mut [u16],
-    label_starts: &mut [u16],
-    label_ends: &mut [u16],
-    attributes: &mut [u8],
-    attribute_count: &mut [u32],
-    attribute_starts: &mut [u16],
-    attribute_ends: &mut [u16],
-)
-    requires { store_labels ≡ true → LabelsOpenable capacity labels.old label_attributes.old label_count.old label_starts.old label_ends.old attributes.old attribute_count.old attribute_starts.old attribute_ends.old }
-    ensures { held (label_managers capacity) labels.new label_attributes.new label_count.new label_starts.new label_ends.new attributes.new attribute_count.new attribute_starts.new attribute_ends.new ≡ labels_opened_if store_labels capacity (held (label_managers capacity) labels.old label_attributes.old label_count.old label_starts.old label_ends.old attributes.old attribute_count.old attribute_starts.old attribute_ends.old) }
+pub fn open_labels(store_labels: bool, capacity: usize, labels: &mut LabelWriting)
+    requires { store_labels ≡ true → LabelsOpenable capacity labels.old.labels.now labels.old.label_attributes.now labels.old.label_count.now labels.old.label_starts.now labels.old.label_ends.now labels.old.attributes.now labels.old.attribute_count.now labels.old.attribute_starts.now labels.old.attribute_ends.now }
+    ensures same { SameWriting labels.old labels.new }
+    ensures opened { labels_writing (label_managers capacity) labels.new ≡ labels_opened_if store_labels capacity (labels_writing (label_managers capacity) labels.old) }
 {
     if store_labels {
-        label_opening::open_labels(
-            capacity,
-            labels,
-            label_attributes,
-            label_count,
-            label_starts,
-            label_ends,
-            attributes,
-            attribute_count,
-            attribute_starts,
-            attribute_ends,
-        );
+        let _ = label_opening::open_labels(capacity, labels);
     }
 }

@@ -24,6 +24,7 @@ pub fn copy_unchecked(
     requires { Readable s (length store.now) reference_count.now location.now }
     ensures { output (done_means result) out.new ≡ checked_copy s store.now reference_count.now location.now index.0 out.old }
 {
+    // Kept: not `store_counts::point_in_use`: opening, compaction and copies would stand on the crate of inc and dec for two tests.
     let manager = s.index_manager;
     let at = index.0;
     if manager.capacity <= at {

@@ -1,10 +1,10 @@
 // Opening a store in lent memory.
 ghost use Rattle.std.specs.Prelude.{true, ◌≡◌, ◌*◌, ◌≤◌};
 ghost use Rattle.interval_store_manager.specs.Calls.{decision_means};
-ghost use Rattle.labels.specs.Lent.{labels_lent as labels_held};
+ghost use Rattle.labels.specs.Lent.{SameWriting, labels_lent as labels_held};
 ghost use Rattle.store_definitions.specs.Answers.{opened_means, outcome};
 ghost use Rattle.store_definitions.specs.Bounds.{bounds_hold, lent_enough};
-ghost use Rattle.store_definitions.specs.Lent.{held, lent};
+ghost use Rattle.store_definitions.specs.Lent.{SamePoints, lent, lent_writing};
 ghost use Rattle.store_definitions.specs.Memory.{point_store};
 ghost use Rattle.store_definitions.specs.Opening.{fresh_with, no_record, open_judged, open_spec, opened_store, shape_allowed};
 ghost use Rattle.store_rows.specs.Openings.{label_managers, labels_lent_if};
@@ -12,9 +12,9 @@ ghost use Rattle.store_rows.specs.Openings.{label_managers, labels_lent_if};
 use crate::clearing::{open_labels, open_points};
 use class_table::read_classes;
 use interval_store_manager::IntervalStoreManager;
-use labels::LabelTables;
+use labels::{LabelTables, LabelWriting};
 use store_check::bounds_hold;
-use store_definitions::{Shape, Store, Tables};
+use store_definitions::{PointTables, Shape, Store, Tables};
 use terms::{FloatBits, Refusal};
 
 // The shape within the bounds.
@@ -146,62 +146,17 @@ pub fn open(
     shape: Shape,
     store: &mut [FloatBits],
     last_known_shingle: &mut [FloatBits],
-    reference_count: &mut [u16],
-    location: &mut [u16],
-    index_starts: &mut [u16],
-    index_ends: &mut [u16],
-    labels: &mut [u8],
-    label_attributes: &mut [u16],
-    label_count: &mut [u16],
-    label_starts: &mut [u16],
-    label_ends: &mut [u16],
-    attributes: &mut [u8],
-    attribute_count: &mut [u32],
-    attribute_starts: &mut [u16],
-    attribute_ends: &mut [u16],
+    points: &mut PointTables,
+    labels: &mut LabelWriting,
     class_text: &[u8],
 ) -> Result<Store, Refusal>
-    ensures { outcome (opened_means result) (point_store (opened_store result) (held store.new last_known_shingle.new reference_count.new location.new index_starts.new index_ends.new labels.new label_attributes.new label_count.new label_starts.new label_ends.new attributes.new attribute_count.new attribute_starts.new attribute_ends.new)) ≡ open_spec 0 shape class_text.now (held store.old last_known_shingle.old reference_count.old location.old index_starts.old index_ends.old labels.old label_attributes.old label_count.old label_starts.old label_ends.old attributes.old attribute_count.old attribute_starts.old attribute_ends.old) }
+    ensures same { SamePoints points.old points.new × SameWriting labels.old labels.new }
+    ensures opened { outcome (opened_means result) (point_store (opened_store result) (lent_writing store.new last_known_shingle.new points.new labels.new)) ≡ open_spec 0 shape class_text.now (lent_writing store.old last_known_shingle.old points.old labels.old) }
 {
-    let tables = Tables::new(
-        reference_count,
-        location,
-        index_starts,
-        index_ends,
-        labels,
-        label_attributes,
-        label_count,
-        label_starts,
-        label_ends,
-        attributes,
-        attribute_count,
-        attribute_starts,
-        attribute_ends,
-    );
-    opening_decision(shape, store, last_known_shingle, tables)?;
+    opening_decision(shape, store, last_known_shingle, points.read(labels.read()))?;
     let classes = read_classes(class_text).ok_or(Refusal::ClassText)?;
     let fresh = fresh_record(shape, classes);
-    open_points(
-        shape,
-        store,
-        last_known_shingle,
-        reference_count,
-        location,
-        index_starts,
-        index_ends,
-    );
-    open_labels(
-        shape.store_labels,
-        shape.capacity,
-        labels,
-        label_attributes,
-        label_count,
-        label_starts,
-        label_ends,
-        attributes,
-        attribute_count,
-        attribute_starts,
-        attribute_ends,
-    );
+    open_points(shape, store, last_known_shingle, points);
+    open_labels(shape.store_labels, shape.capacity, labels);
     Ok(fresh)
 }

@@ -92,6 +92,7 @@ pub struct Row<const N: usize>(pub [FloatBits; N]);
 
 impl<const N: usize> Row<N> {
     pub fn of(floats: [f32; N]) -> Self {
+        // Kept: tried with `floats.map(word_of_float)`; the proof did not close.
         let mut words = [0; N];
         for (word, float) in words.iter_mut().zip(&floats) {
             *word = word_of_float(*float);

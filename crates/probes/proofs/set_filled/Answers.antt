@@ -1,7 +1,7 @@
 -- The store's add, and then the tallies.
-use Rattle.std.proofs.Common.{rules, sym, ◌∙◌}
+use Rattle.std.proofs.Common.{rules, sym, ◌∙◌, ◌≡◌, length}
 use Rattle.float_bits.specs.Words.{words_equal}
-use Rattle.store_definitions.specs.Lent.{held}
+use Rattle.store_definitions.specs.Lent.{lent_taking}
 use Rattle.store_definitions.specs.Memory.{point_store}
 use Rattle.store_definitions.specs.Answers.{added_means, outcome}
 use Rattle.probes_definitions.specs.Memory.{point_probes}
@@ -12,44 +12,50 @@ use Rattle.probes.proofs.set_filled.Goals as goal
 pub filled_words-filled-requires : goal.filled_words-filled-requires
 filled_words-filled-requires c =
     let a = c.args in
-    let m = held a.store.now a.last_known_shingle.now a.reference_count.now a.location.now a.index_starts.now a.index_ends.now a.labels.now a.label_attributes.now a.label_count.now a.label_starts.now a.label_ends.now a.attributes.now a.attribute_count.now a.attribute_starts.now a.attribute_ends.now in
+    let m = lent_taking a.store.now a.last_known_shingle.now a.points.now a.labels.now in
     let p = point_probes a.p.now m in
-    (window_enough words_equal 0 p a.kinds.now a.words.now a.label c.requires.0, (c.requires.1.0, c.requires.1.1.0))
+    window_enough words_equal 0 p a.kinds.now a.words.now a.label c.requires.0
 
 pub add_unchecked-requires : goal.add_unchecked-requires
 add_unchecked-requires c =
     let a = c.args in
-    let m = held a.store.now a.last_known_shingle.now a.reference_count.now a.location.now a.index_starts.now a.index_ends.now a.labels.now a.label_attributes.now a.label_count.now a.label_starts.now a.label_ends.now a.attributes.now a.attribute_count.now a.attribute_starts.now a.attribute_ends.now in
+    let m = lent_taking a.store.now a.last_known_shingle.now a.points.now a.labels.now in
     let p = point_probes a.p.now m in
-    ((probes_sound p c.requires.0).well, c.requires.1.1.1)
+    ((probes_sound p c.requires.0).well, c.requires.1)
 
-pub returns-in_err-kept : goal.returns-in_err-kept
-returns-in_err-kept c =
+pub returns-in_err-kept-clause-set : goal.returns-in_err-kept-clause-set
+returns-in_err-kept-clause-set c =
     let a = c.args in
-    let m = held a.store.now a.last_known_shingle.now a.reference_count.now a.location.now a.index_starts.now a.index_ends.now a.labels.now a.label_attributes.now a.label_count.now a.label_starts.now a.label_ends.now a.attributes.now a.attribute_count.now a.attribute_starts.now a.attribute_ends.now in
+    let m = lent_taking a.store.now a.last_known_shingle.now a.points.now a.labels.now in
     let p = point_probes a.p.now m in
     let u = c.add_unchecked.new in
-    let q = point_store u.s (held u.store u.last_known_shingle u.reference_count u.location u.index_starts u.index_ends u.labels u.label_attributes u.label_count u.label_starts a.label_ends.now u.attributes u.attribute_count u.attribute_starts a.attribute_ends.now) in
-    let o = add_of words_equal 0 p a.kinds.now a.words.now a.label c.filled_words-filled.result c.filled_words-filled.ensures (outcome (added_means c.add_unchecked.result) q) c.add_unchecked.ensures in
-    let refused = set_failed words_equal 0 p a.kinds.now a.words.now a.label c.requires.0 c.add_unchecked.result q o (c.requires.1.0 ∙ sym c.requires.1.1.0) _ c.in_err-kept.was in
+    let q = point_store u.s (lent_taking u.store u.last_known_shingle u.points u.labels) in
+    let o = add_of words_equal 0 p a.kinds.now a.words.now a.label c.filled_words-filled.result c.filled_words-filled.ensures (outcome (added_means c.add_unchecked.result) q) c.add_unchecked.ensures.added in
+    let kinds_eight : length a.kinds.now ≡ 8 = search rules in
+    let words_eight : length a.words.now ≡ 8 = search rules in
+    let same = kinds_eight ∙ sym words_eight in
+    let refused = set_failed words_equal 0 p a.kinds.now a.words.now a.label c.requires.0 c.add_unchecked.result q o same _ c.in_err-kept.was in
     search (rules, refused)
 
 pub tallied-p-requires : goal.tallied-p-requires
 tallied-p-requires c =
     let a = c.args in
-    let m = held a.store.now a.last_known_shingle.now a.reference_count.now a.location.now a.index_starts.now a.index_ends.now a.labels.now a.label_attributes.now a.label_count.now a.label_starts.now a.label_ends.now a.attributes.now a.attribute_count.now a.attribute_starts.now a.attribute_ends.now in
+    let m = lent_taking a.store.now a.last_known_shingle.now a.points.now a.labels.now in
     let p = point_probes a.p.now m in
     let u = c.add_unchecked.new in
-    let q = point_store u.s (held u.store u.last_known_shingle u.reference_count u.location u.index_starts u.index_ends u.labels u.label_attributes u.label_count u.label_starts a.label_ends.now u.attributes u.attribute_count u.attribute_starts a.attribute_ends.now) in
-    let o = add_of words_equal 0 p a.kinds.now a.words.now a.label c.filled_words-filled.result c.filled_words-filled.ensures (outcome (added_means c.add_unchecked.result) q) c.add_unchecked.ensures in
-    (c.requires.1.0, tally_room words_equal 0 p a.kinds.now a.words.now a.label c.requires.0 c.add_unchecked.result q o _ c.in_ok-kept.was)
+    let q = point_store u.s (lent_taking u.store u.last_known_shingle u.points u.labels) in
+    let o = add_of words_equal 0 p a.kinds.now a.words.now a.label c.filled_words-filled.result c.filled_words-filled.ensures (outcome (added_means c.add_unchecked.result) q) c.add_unchecked.ensures.added in
+    tally_room words_equal 0 p a.kinds.now a.words.now a.label c.requires.0 c.add_unchecked.result q o _ c.in_ok-kept.was
 
-pub returns : goal.returns
-returns c =
+pub returns-clause-set : goal.returns-clause-set
+returns-clause-set c =
     let a = c.args in
-    let m = held a.store.now a.last_known_shingle.now a.reference_count.now a.location.now a.index_starts.now a.index_ends.now a.labels.now a.label_attributes.now a.label_count.now a.label_starts.now a.label_ends.now a.attributes.now a.attribute_count.now a.attribute_starts.now a.attribute_ends.now in
+    let m = lent_taking a.store.now a.last_known_shingle.now a.points.now a.labels.now in
     let p = point_probes a.p.now m in
     let u = c.add_unchecked.new in
-    let q = point_store u.s (held u.store u.last_known_shingle u.reference_count u.location u.index_starts u.index_ends u.labels u.label_attributes u.label_count u.label_starts a.label_ends.now u.attributes u.attribute_count u.attribute_starts a.attribute_ends.now) in
-    let o = add_of words_equal 0 p a.kinds.now a.words.now a.label c.filled_words-filled.result c.filled_words-filled.ensures (outcome (added_means c.add_unchecked.result) q) c.add_unchecked.ensures in
-    set_done words_equal 0 p a.kinds.now a.words.now a.label c.requires.0 c.add_unchecked.result q o (c.requires.1.0 ∙ sym c.requires.1.1.0) _ c.in_ok-kept.was _ c.tallied-p.ensures
+    let q = point_store u.s (lent_taking u.store u.last_known_shingle u.points u.labels) in
+    let o = add_of words_equal 0 p a.kinds.now a.words.now a.label c.filled_words-filled.result c.filled_words-filled.ensures (outcome (added_means c.add_unchecked.result) q) c.add_unchecked.ensures.added in
+    let kinds_eight : length a.kinds.now ≡ 8 = search rules in
+    let words_eight : length a.words.now ≡ 8 = search rules in
+    let same = kinds_eight ∙ sym words_eight in
+    set_done words_equal 0 p a.kinds.now a.words.now a.label c.requires.0 c.add_unchecked.result q o same _ c.in_ok-kept.was _ c.tallied-p.ensures

@@ -21,8 +21,8 @@ returns-in_err-live c =
 pub returns-in_err-free : goal.returns-in_err-free
 returns-in_err-free c =
     rw c.from_residual-in_err-free.ensures
-    (labels_ill (point_store c.args.s (tables_lent c.args.floats c.args.window c.args.tables)) c.args.floats c.args.window (length-replicate {A = Unit {0}} c.args.floats tt) (length-replicate {A = Unit {0}} c.args.window tt) c.lengths_of-lent.ensures.fit (sym (c.record_well.ensures ∙ rw c.lengths_of-lent.ensures.lengths refl) ∙ c.if-not-record_well.false) _ _ (sym c.in_ok-live.was ∙ c.points_well.ensures) (sym c.in_err-free.was ∙ c.labels_well_formed.ensures))
+    (labels_ill (point_store c.args.s (tables_lent c.args.floats c.args.window c.args.tables)) c.args.floats c.args.window (length-replicate {A = Unit {0}} c.args.floats tt) (length-replicate {A = Unit {0}} c.args.window tt) c.lengths_of-lent.ensures.fit (sym (c.record_well.ensures ∙ rw c.lengths_of-lent.ensures.lengths refl) ∙ c.if-not-record_well.false) _ _ (sym c.in_ok-live.was ∙ c.points_well.ensures) (sym c.in_err-free.was ∙ c.labels_well_formed.ensures ∙ rw c.label_managers.ensures refl))
 
 pub returns : goal.returns
 returns c =
-    all_well (point_store c.args.s (tables_lent c.args.floats c.args.window c.args.tables)) c.args.floats c.args.window (length-replicate {A = Unit {0}} c.args.floats tt) (length-replicate {A = Unit {0}} c.args.window tt) c.lengths_of-lent.ensures.fit (sym (c.record_well.ensures ∙ rw c.lengths_of-lent.ensures.lengths refl) ∙ c.if-not-record_well.false) _ (sym c.in_ok-live.was ∙ c.points_well.ensures) _ (sym c.in_ok-free.was ∙ c.labels_well_formed.ensures)
+    all_well (point_store c.args.s (tables_lent c.args.floats c.args.window c.args.tables)) c.args.floats c.args.window (length-replicate {A = Unit {0}} c.args.floats tt) (length-replicate {A = Unit {0}} c.args.window tt) c.lengths_of-lent.ensures.fit (sym (c.record_well.ensures ∙ rw c.lengths_of-lent.ensures.lengths refl) ∙ c.if-not-record_well.false) _ (sym c.in_ok-live.was ∙ c.points_well.ensures) _ (sym c.in_ok-free.was ∙ c.labels_well_formed.ensures ∙ rw c.label_managers.ensures refl)

@@ -1,6 +1,5 @@
 -- The loop keeps `Masked`.
 use borrow.Author.Rules.{rules}
-use native.Mathlib.Omega.{arith}
 use mathlib.Core.Path.{◌≡◌}
 use lib.ListN.{length}
 use Rattle.class_table.specs.Marks.{none_masked, one_masked, high_masked, all_masked}
@@ -13,9 +12,6 @@ pub loop-class-preserved : goal.loop-class-preserved
 loop-class-preserved c =
     let l = c.loop-class in
     one_masked c.args.classes l.class-index l.high l.mask c.bit-mask.result c.loop-class-test.true c.bit-mask.ensures l.invariant
-
-pub overflow_add-result : goal.overflow_add-result
-overflow_add-result c = omega (arith, c.loop-class.invariant.mask_most c.if-not-high.true)
 
 pub returns-then-not-high : goal.returns-then-not-high
 returns-then-not-high c =

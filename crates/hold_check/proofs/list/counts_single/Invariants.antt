@@ -1,7 +1,7 @@
--- The invariant: what holds of the entries below i.
+-- The invariant: what holds of the counts so far.
 use Rattle.std.proofs.Common.{◌≡◌}
 use Rattle.hold_check.specs.Rising.{single_counts}
 use Rattle.hold_check.proofs.list.counts_single.Given as goal
 
-abbrev pub invariant-loop-i : goal.invariant-loop-i
-invariant-loop-i l = l.ok ≡ single_counts l.i l.counts
+abbrev pub invariant-loop-count : goal.invariant-loop-count
+invariant-loop-count l = l.ok ≡ single_counts l.count-index l.counts

@@ -1,7 +1,7 @@
--- The invariant: where no place fell, those of the entries before k rise.
-use Rattle.std.proofs.Common.{◌≡◌, ◌≤◌, take}
+-- The invariant: where no place fell, those of the entries so far rise.
+use Rattle.std.proofs.Common.{◌≡◌, ◌≤◌, length, take}
 use Rattle.hold_check.specs.Rising.{Rises}
 use Rattle.hold_check.proofs.rise.places_rise.Given as goal
 
-abbrev pub invariant-loop-k : goal.invariant-loop-k
-invariant-loop-k l = (l.falls ≤ l.k) × (l.falls ≡ 0 → Rises l.n l.next l.location (take l.k l.list))
+abbrev pub invariant-loop-entry : goal.invariant-loop-entry
+invariant-loop-entry l = (l.falls ≤ l.entry-index) × (l.falls ≡ 0 → Rises (length l.location) l.next l.location (take l.entry-index l.list))

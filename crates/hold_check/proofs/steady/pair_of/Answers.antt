@@ -1,19 +1,7 @@
 -- The laws of one interval and of two.
-use Rattle.std.proofs.Common.{◌-◌, get_or, sym, ◌∙◌, arith}
+use Rattle.std.proofs.Common.{◌-◌, get_or, sym, ◌∙◌}
 use Rattle.hold_check.proofs.SteadyLaws.{pair_tested, pair_found}
 use Rattle.hold_check.proofs.steady.pair_of.Goals as goal
-
-pub overflow_sub-more : goal.overflow_sub-more
-overflow_sub-more c =
-    let a = c.args in
-    let t = pair_tested a.n a.count (get_or a.starts.now 0 0) (get_or a.ends.now 0 0) (get_or a.starts.now (a.count - 1) 0) (get_or a.ends.now (a.count - 1) 0) (sym c.pair_apart.ensures ∙ c.if-pair_apart.true) in
-    omega (arith, t.ordered)
-
-pub overflow_sub-further : goal.overflow_sub-further
-overflow_sub-further c =
-    let a = c.args in
-    let t = pair_tested a.n a.count (get_or a.starts.now 0 0) (get_or a.ends.now 0 0) (get_or a.starts.now (a.count - 1) 0) (get_or a.ends.now (a.count - 1) 0) (sym c.pair_apart.ensures ∙ c.if-pair_apart.true) in
-    omega (arith, t.ordered_two)
 
 pub returns-then-pair_apart : goal.returns-then-pair_apart
 returns-then-pair_apart c =

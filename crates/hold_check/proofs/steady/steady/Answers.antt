@@ -1,41 +1,24 @@
 -- The tests in turn, and then the law of a hold as its own calls leave it.
-use Rattle.std.proofs.Common.{sym, ◌∙◌, arith}
-use Rattle.interval_store_manager.specs.Sound.{free_le_capacity}
+use Rattle.std.proofs.Common.{length, sym, ◌∙◌, arith}
 use Rattle.store_definitions.specs.Parts.{table_length}
 use Rattle.hold_check.specs.Steady.{steady_found}
-use Rattle.hold_check.proofs.SteadyLaws.{few_tested, table_most, shingles, row_most}
+use Rattle.hold_check.proofs.SteadyLaws.{counts_room, places_room, row_most}
+use Rattle.hold_check.proofs.PartLaws.{entries_part, runs_part}
 use Rattle.hold_check.proofs.steady.steady.Goals as goal
-
-pub pair_of-requires : goal.pair_of-requires
-pair_of-requires c =
-    let start = c in
-    let a = start.args in
-    let f = few_tested (table_length a.s) a.s.index_manager.last_in_use a.index_starts.now a.index_ends.now c.lent_enough-lent.result c.lent_enough-lent.ensures c.if-lent-count.true in
-    (f.some, (f.within, (table_most a.s a.reference_count.now a.location.now start.requires.0, (f.starts_lent, f.ends_lent))))
-
-pub overflow_sub-n : goal.overflow_sub-n
-overflow_sub-n c =
-    let start = c in
-    let a = start.args in
-    let pair = c.in-Some.ensures in
-    omega (arith, pair.number, free_le_capacity (table_length a.s) a.s.index_manager.last_in_use a.index_starts.now a.index_ends.now)
-
-pub nonzero_div-base : goal.nonzero_div-base
-nonzero_div-base c =
-    let start = c in
-    let a = start.args in
-    omega (arith, shingles a.s a.reference_count.now a.location.now start.requires.0)
 
 pub last_ends-requires : goal.last_ends-requires
 last_ends-requires c =
     let start = c in
     let a = start.args in
-    (row_most a.s a.reference_count.now a.location.now start.requires.0, start.requires.1)
+    row_most a.s a.reference_count.now a.location.now start.requires
 
 pub returns-then-runs_rise : goal.returns-then-runs_rise
 returns-then-runs_rise c =
     let start = c in
     let a = start.args in
     let pair = c.in-Some.pair in
+    let n = table_length a.s in
+    let entries = sym (entries_part n pair.start pair.more pair.other pair.further a.reference_count.now a.location.now (counts_room a.s a.reference_count.now a.location.now start.requires)) ∙ sym c.entries_held.ensures ∙ c.if-entries_held.true in
+    let runs = runs_part n a.location.now (places_room a.s a.reference_count.now a.location.now start.requires) a.list.now (c.runs_rise.ensures c.if-runs_rise.true) in
     λ t.
-    steady_found a.s a.reference_count.now a.location.now a.index_starts.now a.index_ends.now a.held_indices.now a.held pair.start pair.more pair.other pair.further pair.free start.requires.0 start.requires.1 c.in-Some.ensures c.if-n-pair.true (sym c.entries_held.ensures ∙ c.if-entries_held.true) (c.runs_rise.ensures c.if-runs_rise.true) (c.last_ends.ensures t)
+    steady_found a.s a.reference_count.now a.location.now a.index_starts.now a.index_ends.now a.list.now (length a.list.now) pair.start pair.more pair.other pair.further pair.free start.requires (omega arith) c.in-Some.ensures c.if-n-pair.true entries runs (c.last_ends.ensures t)

@@ -1,9 +1,8 @@
 -- What the manager's get ensures, carried to the record, the lent number and the return value.
-use mathlib.Core.List.{[], ◌∷◌}
-use mathlib.Core.Path.{refl, sym, ◌∙◌, ap}
-use Rattle.interval_store_manager.specs.Answers.{given, refused, got_means}
+use mathlib.Core.Path.{refl, ap}
+use Rattle.interval_store_manager.specs.Answers.{given, got_means}
 use Rattle.interval_store_manager.specs.Calls.{get_spec}
-use Rattle.point_store_c.specs.ExportedLaws.{call_refused, call_given, accepted_long, get_refuses}
+use Rattle.point_store_c.specs.ExportedLaws.{accepted_long, get_refuses}
 use Rattle.point_store_c.proofs.manager.ps_manager_get.Goals as goal
 
 pub manager_out-requires : goal.manager_out-requires
@@ -15,22 +14,3 @@ manager_out-requires c =
     a.words.now i.result g.new.self g.new.starts a.ends.now (got_means g.result) (given c.in-Ok.given.index c.in-Ok.given.free)
     (get_refuses a.starts.now a.ends.now) i.ensures g.ensures
     (ap got_means c.in-Ok.is) refl
-
-pub returns-in-Err : goal.returns-in-Err
-returns-in-Err c =
-    let a = c.args in
-    let i = c.manager_in-m in
-    let g = c.get in
-    call_refused (λ m. get_spec m a.starts.now a.ends.now)
-    a.words.now i.result g.new.self g.new.starts a.ends.now (got_means g.result) i.ensures g.ensures (a.index.now ∷ a.free_indices.now ∷ []) c.from.result
-    (ap got_means c.in-Err.is ∙ ap refused (sym c.from.ensures))
-
-pub returns-in-Ok : goal.returns-in-Ok
-returns-in-Ok c =
-    let a = c.args in
-    let i = c.manager_in-m in
-    let g = c.get in
-    rw c.manager_out.ensures
-    (call_given (λ m. get_spec m a.starts.now a.ends.now)
-    a.words.now i.result g.new.self g.new.starts a.ends.now (got_means g.result) i.ensures g.ensures (a.index.now ∷ a.free_indices.now ∷ []) c.in-Ok.given.index c.in-Ok.given.free
-    (ap got_means c.in-Ok.is))

@@ -1,25 +1,8 @@
 -- What the manager's get_capacity ensures, carried to the lent number and the return value.
-use mathlib.Core.List.{[], ◌∷◌}
-use mathlib.Core.Path.{sym, ◌∙◌, ap}
-use Rattle.interval_store_manager.specs.Answers.{refused, number_means}
-use Rattle.interval_store_manager.specs.Calls.{get_capacity_spec}
-use Rattle.point_store_c.specs.ExportedLaws.{reading_refused, reading_holds}
+use Rattle.point_store_c.specs.ExportedLaws.{number_lent}
 use Rattle.point_store_c.proofs.manager.ps_manager_get_capacity.Goals as goal
 
-pub returns-in-Err : goal.returns-in-Err
-returns-in-Err c =
-    let a = c.args in
-    let i = c.manager_in in
-    let g = c.get_capacity in
-    reading_refused (λ m. get_capacity_spec m a.starts.now a.ends.now)
-    a.words.now i.result (number_means g.result) i.ensures g.ensures (a.capacity.now ∷ [])
-    c.from.result (ap number_means c.in-Err.is ∙ ap refused (sym c.from.ensures))
-
-pub returns-in-Ok : goal.returns-in-Ok
-returns-in-Ok c =
-    let a = c.args in
-    let i = c.manager_in in
-    let g = c.get_capacity in
-    reading_holds (λ m. get_capacity_spec m a.starts.now a.ends.now)
-    a.words.now i.result (number_means g.result) i.ensures g.ensures (a.capacity.now ∷ [])
-    c.in-Ok.n (ap number_means c.in-Ok.is)
+pub returns : goal.returns
+returns c =
+    let o = c.number_out in
+    cc (number_lent c.get_capacity-answer.result c.args.capacity.now o.result o.new.number o.ensures)

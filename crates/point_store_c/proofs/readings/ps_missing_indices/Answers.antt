@@ -1,13 +1,9 @@
 -- What the store's missing_indices ensures, carried to the return value.
 use Rattle.store_definitions.specs.Answers.{done_means}
-use Rattle.store_definitions.specs.IndexLists.{missing_indices_spec}
-use Rattle.point_store_c.proofs.ExportedStoreLaws.{memory, output_exported}
+use Rattle.point_store_c.proofs.ExportedStoreLaws.{output_read}
 use Rattle.point_store_c.proofs.readings.ps_missing_indices.Goals as goal
 
 pub returns : goal.returns
 returns c =
-    let a = c.args in
-    let i = c.store_in-s in
     let g = c.missing_indices-answer in
-    output_exported a.words.now (memory a.store.now a.last_known_shingle.now a.reference_count.now a.location.now a.index_starts.now a.index_ends.now a.labels.now a.label_attributes.now a.label_count.now a.label_starts.now a.label_ends.now a.attributes.now a.attribute_count.now a.attribute_starts.now a.attribute_ends.now) i.result i.ensures
-    (λ p. missing_indices_spec p a.look_ahead a.values.now a.out.now) (done_means g.result) g.new.out (rw (c.new-tables.ensures a.store.now a.last_known_shingle.now) at g.ensures) c.done_number.result c.done_number.ensures
+    cc (c.new-tables.ensures c.args.store.now c.args.last_known_shingle.now, output_read (done_means g.result) g.new.out c.done_number.result c.done_number.ensures)

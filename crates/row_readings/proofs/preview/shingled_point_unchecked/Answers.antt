@@ -1,5 +1,7 @@
 -- Each way out is one of the laws of `Previews`.
-use mathlib.Core.Path.{sym, subst}
+use mathlib.Core.Path.{sym, subst, ap, ◌∙◌}
+use mathlib.Core.Bool.{◌&&◌}
+use lib.Dec.{eqb, ltb}
 use Prim.Native.Nat.{ℕ}
 use lib.ListN.{length}
 use Rattle.placement.specs.Places.{Shaped}
@@ -19,7 +21,7 @@ show_window-requires c =
     let at = c in
     let a = at.args in
     let n = length a.point.now in
-    let is_base = previews_base a.s n c.if-point-base.true in
+    let is_base = previews_base a.s n (ap (λ (b : ℕ). eqb (length a.point.now) b && ltb 1 a.s.shingle_size) (sym c.base.ensures) ∙ c.if-point-base.true) in
     record {
       dims_most = at.requires.0.dims_most;
       shape = subst (λ (b : ℕ). Shaped a.s.dimensions b) (sym is_base) at.requires.0.shape;
@@ -32,25 +34,25 @@ unfolding previews
 returns-then-s c =
     let at = c in
     let a = at.args in
-    window_shown a.s a.last_known_shingle.now a.point.now a.out.now c.if-out-dimensions.false c.show_window.new.out c.if-point-base.true c.if-s.true c.show_window.ensures
+    window_shown a.s a.last_known_shingle.now a.point.now a.out.now c.if-out-dimensions.false c.show_window.new.out (ap (λ (b : ℕ). eqb (length a.point.now) b && ltb 1 a.s.shingle_size) (sym c.base.ensures) ∙ c.if-point-base.true) c.if-s.true c.show_window.ensures
 
 pub returns-then-point-base : goal.returns-then-point-base
 unfolding previews
 returns-then-point-base c =
     let at = c in
     let a = at.args in
-    no_window a.s a.last_known_shingle.now a.point.now a.out.now c.if-out-dimensions.false c.if-point-base.true c.if-s.false
+    no_window a.s a.last_known_shingle.now a.point.now a.out.now c.if-out-dimensions.false (ap (λ (b : ℕ). eqb (length a.point.now) b && ltb 1 a.s.shingle_size) (sym c.base.ensures) ∙ c.if-point-base.true) c.if-s.false
 
 pub returns-then-point-dimensions : goal.returns-then-point-dimensions
 unfolding previews
 returns-then-point-dimensions c =
     let at = c in
     let a = at.args in
-    other_point a.s a.last_known_shingle.now a.point.now a.out.now c.if-out-dimensions.false c.if-point-base.false c.if-point-dimensions.true
+    other_point a.s a.last_known_shingle.now a.point.now a.out.now c.if-out-dimensions.false (ap (λ (b : ℕ). eqb (length a.point.now) b && ltb 1 a.s.shingle_size) (sym c.base.ensures) ∙ c.if-point-base.false) c.if-point-dimensions.true
 
 pub returns : goal.returns
 unfolding previews
 returns c =
     let at = c in
     let a = at.args in
-    point_shown a.s a.last_known_shingle.now a.point.now a.out.now c.if-out-dimensions.false c.copy_from.new.words c.if-point-base.false c.if-point-dimensions.false c.copy_from.ensures
+    point_shown a.s a.last_known_shingle.now a.point.now a.out.now c.if-out-dimensions.false c.copy_from.new.words (ap (λ (b : ℕ). eqb (length a.point.now) b && ltb 1 a.s.shingle_size) (sym c.base.ensures) ∙ c.if-point-base.false) c.if-point-dimensions.false c.copy_from.ensures

@@ -1,5 +1,5 @@
 -- The row that is laid is the moved window, or the point.
-use mathlib.Core.Path.{◌∙◌, ap}
+use mathlib.Core.Path.{refl, ◌∙◌, ap}
 use lib.ListN.{length}
 use Rattle.placement.specs.Laying.{laid_elements}
 use Rattle.store_definitions.specs.Parts.{base_of}
@@ -18,7 +18,7 @@ lay-requires c = let a = c.args in
     let sw = c.shift_window in
     let ro = c.row-laid in
     let e = ro.ensures ∙ row_after a.s a.window.now a.point.now pre.0 sw.new.window sw.ensures in
-    lay_asks a.s.dimensions (base_of a.s) a.joined a.start_free_region (length a.store.now) (length ro.result.now) pre.1 (ap length e ∙ row_length a.s a.window.now a.point.now pre.0)
+    rw c.base-base.ensures (lay_asks a.s.dimensions (base_of a.s) a.joined a.start_free_region (length a.store.now) (length ro.result.now) pre.1 (ap length e ∙ row_length a.s a.window.now a.point.now pre.0))
 
 pub returns : goal.returns
 returns c = let a = c.args in
@@ -27,4 +27,4 @@ returns c = let a = c.args in
     let ro = c.row-laid in
     let e = ro.ensures ∙ row_after a.s a.window.now a.point.now pre.0 sw.new.window sw.ensures in
     let la = c.lay in
-    record { window = sw.ensures; store = la.ensures.elements ∙ ap (laid_elements a.s.dimensions (base_of a.s) a.joined a.start_free_region a.store.now) e; answer = la.ensures.answer }
+    record { window = sw.ensures; store = la.ensures.elements ∙ rw c.base-base.ensures (ap (laid_elements a.s.dimensions (base_of a.s) a.joined a.start_free_region a.store.now) e); answer = (la.ensures.answer.0 ∙ rw c.base-base.ensures refl, la.ensures.answer.1 ∙ rw c.base-base.ensures refl) }

@@ -4,12 +4,12 @@ use Rattle.store_definitions.specs.WellFormed.{free_start_well}
 use Rattle.store_laws.specs.BoundsLaws.{in_bounds, base_some}
 use Rattle.store_check.proofs.bounds.free_start_well.Goals as goal
 
-pub nonzero_div-base : goal.nonzero_div-base
-nonzero_div-base c = (in_bounds c.args.s.dimensions c.args.s.shingle_size c.args.s.capacity c.requires).shingle_least
+pub base-requires : goal.base-requires
+base-requires c = (in_bounds c.args.s.dimensions c.args.s.shingle_size c.args.s.capacity c.requires).shingle_least
 
 pub nonzero_rem-result : goal.nonzero_rem-result
-nonzero_rem-result c = base_some c.args.s.dimensions c.args.s.shingle_size c.args.s.capacity (in_bounds c.args.s.dimensions c.args.s.shingle_size c.args.s.capacity c.requires)
+nonzero_rem-result c = rw c.base.ensures (base_some c.args.s.dimensions c.args.s.shingle_size c.args.s.capacity (in_bounds c.args.s.dimensions c.args.s.shingle_size c.args.s.capacity c.requires))
 
 pub returns : goal.returns
 unfolding free_start_well
-returns c = refl
+returns c = rw c.base.ensures refl
