@@ -51,3 +51,16 @@ too_large value b l = rw (lt-leb value 999999999 l) (and-false (is_ascii_digit b
 pub a_digit : (value b : ℕ) → is_ascii_digit b ≡ true → value ≤ 999999999 → taken value b ≡ true
 unfolding taken
 a_digit value b e l = rw (e, le-leb value 999999999 l)
+
+-- the same of the byte as a number
+pub below_digits : (value b : ℕ) → b < 48 → taken value b ≡ false
+unfolding taken
+below_digits value b h = rw (lt-leb 48 b h)
+
+pub above_digits : (value b : ℕ) → 48 ≤ b → 57 < b → taken value b ≡ false
+unfolding taken
+above_digits value b h g = rw (le-leb 48 b h, lt-leb b 57 g)
+
+pub digit_taken : (value b : ℕ) → 48 ≤ b → b ≤ 57 → value ≤ 999999999 → taken value b ≡ true
+unfolding taken
+digit_taken value b h g l = rw (le-leb 48 b h, le-leb b 57 g, le-leb value 999999999 l)

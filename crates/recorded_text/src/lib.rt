@@ -8,7 +8,7 @@ ghost use Rattle.recorded_text.specs.Numbers.{number_at, numeral};
 mod call;
 mod tally;
 
-pub use call::UnknownCall;
+pub use call::{NO_CALL, UnknownCall};
 pub use tally::{Agreement, Tally};
 
 // A number and where the next one starts.
@@ -22,7 +22,7 @@ pub struct Numeral {
 const MOST: usize = 999_999_999;
 
 // The number whose first digit stands at `at`, and the place past the byte that follows its last digit.
-fn number_at(text: &[u8], at: usize) -> Numeral
+pub fn number_at(text: &[u8], at: usize) -> Numeral
     ensures { result ≡ number_at text.now at }
 {
     let mut value: usize = 0;

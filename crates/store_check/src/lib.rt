@@ -16,7 +16,7 @@ pub use bounds::{bounds_hold, free_start_well};
 use label_check::labels_well_formed;
 use labels::LabelsFree;
 pub use points::places_distinct;
-pub use record::{Lengths, lengths_of, record_well};
+pub use record::{Lengths, lengths_of, numbers_well, record_well};
 use store_definitions::{Store, Tables};
 use table::points_well;
 pub use table::table_well;
