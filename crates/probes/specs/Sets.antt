@@ -112,8 +112,8 @@ module _ {E : Type 0} (eq : E → E → Bool) (zero_element : E) (p : PointProbe
 
     -- the same of the answer that the store's add gives
     module _ (answer : Result (Option Kept) Refusal) (q : PointStore E) (d : outcome (added_means answer) q ≡ added) where
-      pub tally_room : (kept : Option Kept) → answer ≡ Ok kept → (k : ℕ) → k < 8 → get_or p.header.tallies k 0 < 4294967295
-      tally_room kept f = answer_room (added_means answer) q d (accepted kept f)
+      pub tally_room : (given : Option Kept) → answer ≡ Ok given → (k : ℕ) → k < 8 → get_or p.header.tallies k 0 < 4294967295
+      tally_room given f = answer_room (added_means answer) q d (accepted given f)
         where
           accepted : (k : Option Kept) → answer ≡ Ok k → is_accepted (added_means answer) ≡ true
           accepted (Some k) f = ap (λ (r : Result (Option Kept) Refusal). is_accepted (added_means r)) f
@@ -126,11 +126,11 @@ module _ {E : Type 0} (eq : E → E → Bool) (zero_element : E) (p : PointProbe
           ∙ ap (λ (x : Result (Option Kept) Refusal). set_added p set (outcome (added_means x) q)) (sym f)
           ∙ ap (λ (o : Outcome E). set_added p set o) d
 
-      pub set_done : length kinds ≡ length xs → (kept : Option Kept) → answer ≡ Ok kept → (ts : List ℕ) → ts ≡ tallied_kinds kinds p.header.tallies
-          → probes_outcome (added_means (Ok kept)) (point_probes (record { store = q.header; tallies = ts }) q.memory) ≡ set_added p set added
-      set_done same kept f ts g =
-          ap (λ (x : List ℕ). probes_outcome (added_means (Ok kept)) (point_probes (record { store = q.header; tallies = x }) q.memory)) g
-          ∙ set_after (Ok kept) f same
+      pub set_done : length kinds ≡ length xs → (given : Option Kept) → answer ≡ Ok given → (ts : List ℕ) → ts ≡ tallied_kinds kinds p.header.tallies
+          → probes_outcome (added_means (Ok given)) (point_probes (record { store = q.header; tallies = ts }) q.memory) ≡ set_added p set added
+      set_done same given f ts g =
+          ap (λ (x : List ℕ). probes_outcome (added_means (Ok given)) (point_probes (record { store = q.header; tallies = x }) q.memory)) g
+          ∙ set_after (Ok given) f same
 
       pub set_failed : length kinds ≡ length xs → (why : Refusal) → answer ≡ Err why
           → probes_outcome (refused (number why)) (point_probes (record { store = q.header; tallies = p.header.tallies }) q.memory) ≡ set_added p set added
