@@ -12,4 +12,4 @@ mod sum;
 pub use equality::{copy_equals, is_equal_unchecked};
 pub use index_list::{missing_indices_unchecked, next_indices_unchecked};
 pub use preview::shingled_point_unchecked;
-pub use sum::point_sum_unchecked;
+pub use sum::{add_item, item_test, point_sum_unchecked};
