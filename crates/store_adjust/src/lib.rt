@@ -17,7 +17,7 @@ mod plain;
 
 use labels::LabelLowering;
 pub use pair::adjust_pair;
-pub use plain::adjust_plain;
+pub use plain::{adjust_plain, adjust_rows};
 use store_definitions::{AdjustRefusal, Pair, PointTables, Store};
 
 // Of the elements only the lengths are known.

@@ -33,7 +33,8 @@ fn pair_of_row(row: [usize; 4]) -> Pair
 }
 
 // For a checked store.
-fn adjust_rows(
+// Kept: a loop beside that of `adjust_unchecked`: a lent slice of rows is no slice of pairs, and there is no heap to make one on.
+pub fn adjust_rows(
     s: &mut Store,
     floats: usize,
     window: usize,
