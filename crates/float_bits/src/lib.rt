@@ -56,6 +56,6 @@ pub fn add_scaled(sums: &mut [f32], row: &[FloatBits], weight: usize)
 {
     let factor = weight as f32;
     for i in 0..sums.len() {
-        sums[i] += float_of_word(row[i]) * factor;
+        sums[i] = sums[i] + float_of_word(row[i]) * factor;
     }
 }

@@ -40,23 +40,23 @@ other_class held counts class s d = rw (ne_eqb (get_or held s 0) class d) (and-f
 
 -- a search from the front finds the slot of the class, or passes them all
 module _ (c : ℕ) (held counts : List ℕ) (class : ℕ) where
-  pub class_found : (i : ℕ) → i < c → 0 < get_or counts i 0 → get_or held i 0 ≡ class → ((k : ℕ) → k < i → holds_class held counts class k ≡ false) → Some i ≡ live_slot c held counts class
+  pub first_found : (i : ℕ) → i < c → 0 < get_or counts i 0 → get_or held i 0 ≡ class → ((k : ℕ) → k < i → holds_class held counts class k ≡ false) → i ≡ class_slot c held counts class
   unfolding class_slot holds_class
-  class_found i l u e f =
-      rw (
-        first_is c (holds_class held counts class) i
-            (record { within = omega arith; passes = λ m. rw (lt-ltb 0 (get_or counts i 0) u, eq-eqb (get_or held i 0) class e); none_before = f }),
-        lt-ltb i c l,
-      )
+  first_found i l u e f =
+      sym (first_is c (holds_class held counts class) i
+      (record { within = omega arith; passes = λ m. rw (lt-ltb 0 (get_or counts i 0) u, eq-eqb (get_or held i 0) class e); none_before = f }))
+
+  pub first_none : ((k : ℕ) → k < c → holds_class held counts class k ≡ false) → c ≡ class_slot c held counts class
+  unfolding class_slot
+  first_none f =
+      sym (first_is c (holds_class held counts class) c
+      (record { within = omega arith; passes = λ m. absurd (omega arith); none_before = f }))
+
+  pub class_found : (i : ℕ) → i < c → 0 < get_or counts i 0 → get_or held i 0 ≡ class → ((k : ℕ) → k < i → holds_class held counts class k ≡ false) → Some i ≡ live_slot c held counts class
+  class_found i l u e f = rw (sym (first_found i l u e f), lt-ltb i c l)
 
   pub class_none : ((k : ℕ) → k < c → holds_class held counts class k ≡ false) → None ≡ live_slot c held counts class
-  unfolding class_slot
-  class_none f =
-      rw (
-        first_is c (holds_class held counts class) c
-            (record { within = omega arith; passes = λ m. absurd (omega arith); none_before = f }),
-        le-ltb c c (omega arith),
-      )
+  class_none f = rw (sym (first_none f), le-ltb c c (omega arith))
 
 -- the slot found is the one that the definition takes, and none is found where it takes none
 some_slot : (c r live : ℕ) → Some live ≡ cond (ltb r c) (Some r) None → (live ≡ r) × (live < c)

@@ -1,6 +1,7 @@
 // A recorded call made on the proved manager, and what is seen of it.
 use crate::call::Call;
 use interval_store_manager::IntervalStoreManager;
+use recorded_text::{NO_CALL, UnknownCall};
 use std::fmt;
 use terms::Refusal;
 
@@ -82,10 +83,13 @@ impl Replayed {
         }
     }
 
-    pub fn make(&mut self, call: Call, argument: usize) -> Seen {
-        let (value, answer) = match self.answer(call, argument) {
-            Ok(answer) => (0, answer),
-            Err(why) => (u64::from(why) as usize, 0),
+    pub fn make(&mut self, called: Result<Call, UnknownCall>, argument: usize) -> Seen {
+        let (value, answer) = match called {
+            Ok(call) => match self.answer(call, argument) {
+                Ok(answer) => (0, answer),
+                Err(why) => (u64::from(why) as usize, 0),
+            },
+            Err(_) => (NO_CALL, 0),
         };
         let in_use = self.manager.last_in_use;
         Seen {

@@ -9,10 +9,22 @@ mod made;
 mod text;
 
 use call::{CALLS, Call};
-use made::Replayed;
+use made::{Replayed, Seen};
 use recorded_text::{Tally, count_lines};
-use std::{fs, io};
+use std::{fmt, fs, io};
 use text::{Line, next_line};
+
+fn print_difference<N: fmt::Display>(
+    rt: &impl Print,
+    step: usize,
+    name: &N,
+    line: Line,
+    seen: Seen,
+) -> io::Result<()> {
+    let argument = line.argument;
+    let recorded = line.seen;
+    println!(rt; "step {step} differs: {name} {argument}: {seen}; recorded: {recorded}")
+}
 
 fn replay_line(
     rt: &impl Print,
@@ -21,19 +33,15 @@ fn replay_line(
     manager: &mut Replayed,
     tally: &mut Tally<7>,
 ) -> io::Result<()> {
-    let argument = line.argument;
-    let recorded = line.seen;
-    let call = match Call::try_from(line.call) {
-        Ok(call) => call,
-        Err(unknown) => {
-            tally.count(line.call, false);
-            return println!(rt; "step {step} differs: {unknown}");
+    let called = Call::try_from(line.call);
+    let seen = manager.make(called, line.argument);
+    let agreed = seen == line.seen;
+    tally.count(line.call, agreed);
+    if !agreed {
+        match called {
+            Ok(call) => print_difference(rt, step, &call, line, seen)?,
+            Err(unknown) => print_difference(rt, step, &unknown, line, seen)?,
         }
-    };
-    let seen = manager.make(call, argument);
-    tally.count(line.call, seen == recorded);
-    if seen != recorded {
-        println!(rt; "step {step} differs: {call} {argument}: {seen}; recorded: {recorded}")?;
     }
     Ok(())
 }

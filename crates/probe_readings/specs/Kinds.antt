@@ -1,5 +1,5 @@
 -- A set of readings as kinds and words, and what is tallied of its kinds.
-use Rattle.std.specs.Prelude.{ℕ, zero, suc, ◌+◌, ◌≤◌, ◌<◌, Bool, false, cond, Option, Some, None, Result, Ok, Err, is_ok, ◌||◌, ◌≡◌, length, ltb, eqb}
+use Rattle.std.specs.Prelude.{ℕ, zero, suc, ◌+◌, ◌≤◌, ◌<◌, Bool, true, false, cond, Option, Some, None, Result, Ok, Err, is_ok, ◌||◌, ◌≡◌, length, ltb, eqb}
 use Rattle.std.proofs.Common.{arith, sym, ap, ◌∙◌, lt-ltb, le-ltb, eq-eqb, ne_eqb}
 use mathlib.Core.List.{List, [], ◌∷◌}
 use Rattle.std.proofs.Math.Path.{refl, ap₂}
@@ -8,7 +8,7 @@ use Rattle.interval_store_manager.specs.Calls.{go}
 use Rattle.float_bits.specs.Words.{word_of}
 use Rattle.terms.specs.declared.Refusal.{Refusal}
 use Rattle.store_definitions.specs.declared.Kept.{Kept}
-use Rattle.store_definitions.specs.Answers.{added_means}
+use Rattle.store_definitions.specs.Answers.{Answer, kept, waiting, done, is, says, refused, refused_after, added_means}
 use Rattle.probes_definitions.specs.declared.Reading.{Reading}
 use Rattle.probes_definitions.specs.declared.Reading.TheVariants as at
 use Rattle.probes_definitions.specs.Readings.{ProbeReading, stored, estimates, is_absent, any_absent, tallied, of_kind, of_kinds, any_above, of_float, of_floats}
@@ -117,10 +117,28 @@ module _ {E : Type 0} where
   absent_kinds (k ∷ ks) [] h = absurd (omega arith)
   absent_kinds (k ∷ ks) (x ∷ xs) h = ap₂ (λ (a b : Bool). a || b) (absent_kind k x) (absent_kinds ks xs (omega arith))
 
--- ---- accepted adds
+-- ---- accepted answers
+
+abbrev pub is_accepted : Answer → Bool
+is_accepted (kept i l laid left) = true
+is_accepted waiting = true
+is_accepted done = false
+is_accepted (is n) = false
+is_accepted (says b) = false
+is_accepted (refused n) = false
+is_accepted (refused_after n k) = false
+
+pub tallied_answer : {E : Type 0} (ks : List ℕ) (xs : List E) (ts : List ℕ) (a : Answer) → length ks ≡ length xs → cond (is_accepted a) (tallied_kinds ks ts) ts ≡ tallied_with (of_kinds ks xs) a ts
+tallied_answer ks xs ts (kept i l laid left) h = sym (tallied_kinds_lem ks xs ts h)
+tallied_answer ks xs ts waiting h = sym (tallied_kinds_lem ks xs ts h)
+tallied_answer ks xs ts done h = refl
+tallied_answer ks xs ts (is n) h = refl
+tallied_answer ks xs ts (says b) h = refl
+tallied_answer ks xs ts (refused n) h = refl
+tallied_answer ks xs ts (refused_after n k) h = refl
 
 -- an add that is kept or waits tallies
 pub tallied_if : {E : Type 0} (ks : List ℕ) (xs : List E) (ts : List ℕ) (r : Result (Option Kept) Refusal) → length ks ≡ length xs → cond (is_ok r) (tallied_kinds ks ts) ts ≡ tallied_with (of_kinds ks xs) (added_means r) ts
-tallied_if ks xs ts (Ok (Some k)) h = sym (tallied_kinds_lem ks xs ts h)
-tallied_if ks xs ts (Ok None) h = sym (tallied_kinds_lem ks xs ts h)
-tallied_if ks xs ts (Err r) h = refl
+tallied_if ks xs ts (Ok (Some k)) h = tallied_answer ks xs ts (added_means (Ok (Some k))) h
+tallied_if ks xs ts (Ok None) h = tallied_answer ks xs ts waiting h
+tallied_if ks xs ts (Err r) h = tallied_answer ks xs ts (added_means (Err r)) h

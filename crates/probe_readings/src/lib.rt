@@ -10,7 +10,7 @@ mod tally;
 pub use convert::{kinds_of, words_of};
 pub use decide::set_decision;
 pub use fill::filled_words;
-pub use tally::tallied;
+pub use tally::{tallied, tallies_after};
 
 // The kinds, of which Absent is the greatest.
 // Kept: a kind is a byte, since the C interface lends eight of them, and one may be no kind at all: an enum would be a second pass.

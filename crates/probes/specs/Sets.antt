@@ -9,7 +9,7 @@ use Rattle.std.proofs.Math.Path.{ap}
 use borrow.Author.Tests.{eqb-true, not-false}
 use Rattle.interval_store_manager.specs.Calls.{Decided, go, refuse}
 use Rattle.store_definitions.specs.Memory.{PointStore}
-use Rattle.store_definitions.specs.Answers.{refused, added_means, Outcome, outcome}
+use Rattle.store_definitions.specs.Answers.{Answer, kept, waiting, done, is, says, refused, refused_after, added_means, Outcome, outcome}
 use Rattle.store_definitions.specs.Decisions.{and_then, refuse_if}
 use Rattle.store_definitions.specs.Adding.{add_spec}
 use Rattle.store_laws.specs.DecisionLaws.{both_go, not_refused}
@@ -23,7 +23,7 @@ use Rattle.probes_definitions.specs.Setting.{set_added, set_decided, kinds_decid
 use Rattle.probes_definitions.proofs.Sound.{probes_sound}
 use Rattle.probes_definitions.specs.WindowAfter.{Leaves, add_leaves, eight_wide}
 use Rattle.probes_definitions.proofs.SettingLaws.{kinds_set}
-use Rattle.probe_readings.specs.Kinds.{kinds_of, words_of, set_same, floats_decided, tallied_kinds, tallied_if}
+use Rattle.probe_readings.specs.Kinds.{kinds_of, words_of, set_same, floats_decided, tallied_kinds, is_accepted, tallied_answer, tallied_if}
 use Rattle.probe_readings.specs.Deciding.{set_asked, asked_is}
 
 module _ {E : Type 0} (eq : E → E → Bool) (zero_element : E) (p : PointProbes E) (kinds : List ℕ) (xs : List E) (code : ℕ) where
@@ -81,22 +81,43 @@ module _ {E : Type 0} (eq : E → E → Bool) (zero_element : E) (p : PointProbe
         let s = sound (store_of p) w.well in
         (eight_wide (store_of p) s w.base_eight, s.lent.window_lent)
 
-    module _ (answer : Result (Option Kept) Refusal) (q : PointStore E) (d : outcome (added_means answer) q ≡ added) where
-      leaves : Leaves (store_of p) point (added_means answer) q
+    module _ (a : Answer) (q : PointStore E) (d : outcome a q ≡ added) where
+      leaves : Leaves (store_of p) point a q
       leaves = subst (λ (o : Outcome E). Leaves (store_of p) point o.answer o.after) (sym d) (add_leaves eq zero_element (store_of p) point code)
 
       -- an accepted set leaves room for one more in every tally
-      pub tally_room : (kept : Option Kept) → answer ≡ Ok kept → (k : ℕ) → k < 8 → get_or p.header.tallies k 0 < 4294967295
-      tally_room kept f k h =
+      pub answer_room : is_accepted a ≡ true → (k : ℕ) → k < 8 → get_or p.header.tallies k 0 < 4294967295
+      answer_room t k h =
           let w = probes_sound p e in
           let most = (sound (store_of p) w.well).sequence_most in
           let below = w.tallies_most k h in
-          let open_yet = unfinished kept (subst (λ (r : Result (Option Kept) Refusal). Leaves (store_of p) point (added_means r) q) f leaves) in
+          let open_yet = unfinished a leaves t in
           omega (arith, most, below, open_yet)
         where
-          unfinished : (kept : Option Kept) → Leaves (store_of p) point (added_means (Ok kept)) q → p.header.store.next_sequence_index ≡ 4294967295 → ⊥
-          unfinished (Some k) m = m.unfinished
-          unfinished None m = m.unfinished
+          unfinished : (x : Answer) → Leaves (store_of p) point x q → is_accepted x ≡ true → p.header.store.next_sequence_index ≡ 4294967295 → ⊥
+          unfinished (kept i l laid left) m y = m.unfinished
+          unfinished waiting m y = m.unfinished
+          unfinished done m y = absurd (let z : ◌≡◌ {A = ℕ} 0 1 = cc in omega arith)
+          unfinished (is n) m y = absurd (let z : ◌≡◌ {A = ℕ} 0 1 = cc in omega arith)
+          unfinished (says b) m y = absurd (let z : ◌≡◌ {A = ℕ} 0 1 = cc in omega arith)
+          unfinished (refused n) m y = absurd (let z : ◌≡◌ {A = ℕ} 0 1 = cc in omega arith)
+          unfinished (refused_after n j) m y = absurd (let z : ◌≡◌ {A = ℕ} 0 1 = cc in omega arith)
+
+      pub answer_set : length kinds ≡ length xs → (b : Bool) → b ≡ is_accepted a → (ts : List ℕ) → ts ≡ cond b (tallied_kinds kinds p.header.tallies) p.header.tallies
+          → probes_outcome a (point_probes (record { store = q.header; tallies = ts }) q.memory) ≡ set_added p set added
+      answer_set same b f ts g =
+          ap (λ (x : List ℕ). probes_outcome a (point_probes (record { store = q.header; tallies = x }) q.memory))
+          (g ∙ ap (λ (x : Bool). cond x (tallied_kinds kinds p.header.tallies) p.header.tallies) f ∙ tallied_answer kinds xs p.header.tallies a same)
+          ∙ ap (λ (o : Outcome E). set_added p set o) d
+
+    -- the same of the answer that the store's add gives
+    module _ (answer : Result (Option Kept) Refusal) (q : PointStore E) (d : outcome (added_means answer) q ≡ added) where
+      pub tally_room : (given : Option Kept) → answer ≡ Ok given → (k : ℕ) → k < 8 → get_or p.header.tallies k 0 < 4294967295
+      tally_room given f = answer_room (added_means answer) q d (accepted given f)
+        where
+          accepted : (k : Option Kept) → answer ≡ Ok k → is_accepted (added_means answer) ≡ true
+          accepted (Some k) f = ap (λ (r : Result (Option Kept) Refusal). is_accepted (added_means r)) f
+          accepted None f = ap (λ (r : Result (Option Kept) Refusal). is_accepted (added_means r)) f
 
       set_after : (r : Result (Option Kept) Refusal) → answer ≡ r → length kinds ≡ length xs
           → probes_outcome (added_means r) (point_probes (record { store = q.header; tallies = cond (is_ok r) (tallied_kinds kinds p.header.tallies) p.header.tallies }) q.memory) ≡ set_added p set added
@@ -105,11 +126,11 @@ module _ {E : Type 0} (eq : E → E → Bool) (zero_element : E) (p : PointProbe
           ∙ ap (λ (x : Result (Option Kept) Refusal). set_added p set (outcome (added_means x) q)) (sym f)
           ∙ ap (λ (o : Outcome E). set_added p set o) d
 
-      pub set_done : length kinds ≡ length xs → (kept : Option Kept) → answer ≡ Ok kept → (ts : List ℕ) → ts ≡ tallied_kinds kinds p.header.tallies
-          → probes_outcome (added_means (Ok kept)) (point_probes (record { store = q.header; tallies = ts }) q.memory) ≡ set_added p set added
-      set_done same kept f ts g =
-          ap (λ (x : List ℕ). probes_outcome (added_means (Ok kept)) (point_probes (record { store = q.header; tallies = x }) q.memory)) g
-          ∙ set_after (Ok kept) f same
+      pub set_done : length kinds ≡ length xs → (given : Option Kept) → answer ≡ Ok given → (ts : List ℕ) → ts ≡ tallied_kinds kinds p.header.tallies
+          → probes_outcome (added_means (Ok given)) (point_probes (record { store = q.header; tallies = ts }) q.memory) ≡ set_added p set added
+      set_done same given f ts g =
+          ap (λ (x : List ℕ). probes_outcome (added_means (Ok given)) (point_probes (record { store = q.header; tallies = x }) q.memory)) g
+          ∙ set_after (Ok given) f same
 
       pub set_failed : length kinds ≡ length xs → (why : Refusal) → answer ≡ Err why
           → probes_outcome (refused (number why)) (point_probes (record { store = q.header; tallies = p.header.tallies }) q.memory) ≡ set_added p set added

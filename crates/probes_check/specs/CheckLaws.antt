@@ -35,6 +35,10 @@ module _ {E : Type 0} (p : PointProbes E) where
     pub shingle_positive : 0 < p.header.store.shingle_size
     shingle_positive = omega (arith, (sound (store_of p) e).bounds.shingle_least)
 
+    pub ill_shape : eight ≡ false → false ≡ probes_well_formed p
+    unfolding probes_well_formed
+    ill_shape f = rw (e, f)
+
   -- the tests of its own
   abbrev pub own_tests : Bool
   own_tests = eight && tallies_within p.header.store.next_sequence_index p.header.tallies

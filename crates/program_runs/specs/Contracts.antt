@@ -23,9 +23,9 @@ use Rattle.store_definitions.specs.Counting.{inc_spec, dec_spec, adjust_spec}
 use Rattle.store_definitions.specs.Lent.{Slice, lent_taking, lent_raising, lent_lowering, lent_writing}
 use Rattle.store_definitions.specs.Memory.{PointStore, point_store}
 use Rattle.store_definitions.specs.Opening.{opened_store, open_spec}
-use Rattle.store_adjust.specs.Pairs.{pairings_of}
+use Rattle.store_adjust.specs.Pairs.{pairings, pairings_of}
 use Rattle.guarantee.specs.Run.{Call, add, inc, dec, adjust}
-use Rattle.program_runs.specs.Ran.{SliceOf, Opened, opens, Ran, adds, incs, decs, adjusts}
+use Rattle.program_runs.specs.Ran.{SliceOf, Opened, opens, Ran, adds, incs, decs, adjusts, adjusts_plain}
 
 abbrev both : {X : Type 0} → X → X → Both X X
 both a b = record { entry = a; exit = b }
@@ -65,3 +65,10 @@ module _ {start : PointStore ℕ} {calls : List (Call ℕ)} {answers : List Answ
       → outcome (adjusted_means answer) (point_store after (lent_lowering store.entry window.entry q k)) ≡ adjust_spec (point_store s (lent_lowering store.entry window.entry p l)) (pairings_of pairs.entry)
       → Ran start (adjust (pairings_of pairs.entry) ∷ calls) (adjusted_means answer ∷ answers) (point_store after (lent_lowering store.entry window.entry q k))
   adjust_ran p q l k pairs answer r e = adjusts s after (both store.entry store.entry) (both window.entry window.entry) (both p.reference_count.now q.reference_count.now) (both p.location.now q.location.now) (both p.index_starts.now q.index_starts.now) (both p.index_ends.now q.index_ends.now) (both l.labels.now k.labels.now) (both l.label_attributes.now k.label_attributes.now) (both l.label_count.now k.label_count.now) (both l.label_starts.now k.label_starts.now) (both l.label_ends.now k.label_ends.now) (both l.attributes.now k.attributes.now) (both l.attribute_count.now k.attribute_count.now) (both l.attribute_starts.now k.attribute_starts.now) (both l.attribute_ends.now k.attribute_ends.now) pairs answer r e
+
+  -- store_adjust::adjust_plain
+  pub adjust_plain_ran : (p q : PointTables) (l k : LabelLowering) (pairs : SliceOf (List ℕ)) (answer : Result Unit AdjustRefusal)
+      → Ran start calls answers (point_store s (lent_lowering store.entry window.entry p l))
+      → outcome (adjusted_means answer) (point_store after (lent_lowering store.entry window.entry q k)) ≡ adjust_spec (point_store s (lent_lowering store.entry window.entry p l)) (pairings pairs.entry)
+      → Ran start (adjust (pairings pairs.entry) ∷ calls) (adjusted_means answer ∷ answers) (point_store after (lent_lowering store.entry window.entry q k))
+  adjust_plain_ran p q l k pairs answer r e = adjusts_plain s after (both store.entry store.entry) (both window.entry window.entry) (both p.reference_count.now q.reference_count.now) (both p.location.now q.location.now) (both p.index_starts.now q.index_starts.now) (both p.index_ends.now q.index_ends.now) (both l.labels.now k.labels.now) (both l.label_attributes.now k.label_attributes.now) (both l.label_count.now k.label_count.now) (both l.label_starts.now k.label_starts.now) (both l.label_ends.now k.label_ends.now) (both l.attributes.now k.attributes.now) (both l.attribute_count.now k.attribute_count.now) (both l.attribute_starts.now k.attribute_starts.now) (both l.attribute_ends.now k.attribute_ends.now) pairs answer r e

@@ -56,7 +56,7 @@ pub data Ran (start : PointStore ℕ) : List (Call ℕ) → List Answer → Poin
       → Ran start calls answers (point_store s (entered store last_known_shingle reference_count location index_starts index_ends labels label_attributes label_count label_starts label_ends attributes attribute_count attribute_starts attribute_ends))
       → outcome (adjusted_means answer) (point_store after (left store last_known_shingle reference_count location index_starts index_ends labels label_attributes label_count label_starts label_ends attributes attribute_count attribute_starts attribute_ends)) ≡ adjust_spec (point_store s (entered store last_known_shingle reference_count location index_starts index_ends labels label_attributes label_count label_starts label_ends attributes attribute_count attribute_starts attribute_ends)) (pairings_of pairs.entry)
       → Ran start (adjust (pairings_of pairs.entry) ∷ calls) (adjusted_means answer ∷ answers) (point_store after (left store last_known_shingle reference_count location index_starts index_ends labels label_attributes label_count label_starts label_ends attributes attribute_count attribute_starts attribute_ends))
-  -- the same of rows of four numbers in place of the pairs
+  -- store_adjust::adjust_plain
   adjusts_plain : {calls : List (Call ℕ)} {answers : List Answer} (s after : Store) (store last_known_shingle reference_count location index_starts index_ends labels label_attributes label_count label_starts label_ends attributes attribute_count attribute_starts attribute_ends : Slice) (pairs : SliceOf (List ℕ)) (answer : Result Unit AdjustRefusal)
       → Ran start calls answers (point_store s (entered store last_known_shingle reference_count location index_starts index_ends labels label_attributes label_count label_starts label_ends attributes attribute_count attribute_starts attribute_ends))
       → outcome (adjusted_means answer) (point_store after (left store last_known_shingle reference_count location index_starts index_ends labels label_attributes label_count label_starts label_ends attributes attribute_count attribute_starts attribute_ends)) ≡ adjust_spec (point_store s (entered store last_known_shingle reference_count location index_starts index_ends labels label_attributes label_count label_starts label_ends attributes attribute_count attribute_starts attribute_ends)) (pairings pairs.entry)

@@ -1,7 +1,10 @@
 -- What the reader of numbers reads, and the laws of its turns.
-use Rattle.std.specs.Prelude.{ℕ, ◌+◌, ◌-◌, ◌*◌, ◌≤◌, ◌<◌, List, [], ◌∷◌, Bool, true, false, cond, ◌&&◌, ◌≡◌, length, get_or, drop, leb}
-use Rattle.std.proofs.Common.{add-one, drop_of_length-le, drop-cons, le-leb}
+use Rattle.std.specs.Prelude.{ℕ, ◌+◌, ◌-◌, ◌*◌, ◌≤◌, ◌<◌, List, [], ◌∷◌, Bool, true, false, cond, ◌&&◌, ◌≡◌, length, get_or, take, drop, leb}
+use Rattle.std.proofs.Common.{add-one, drop_of_length-le, drop-cons, le-leb, sym, ◌∙◌}
+use Prim.Native.Nat.{min, max}
+use native.Mathlib.Omega.{arith}
 use Rattle.std.proofs.lemmas.Bool.{lt-leb}
+use Rattle.std.proofs.lemmas.List.{get_or-take, get_or-drop, length-take-le, length-drop}
 use Rattle.std.proofs.Math.Bool.{and-false}
 use Rattle.std.specs.Char.{is_ascii_digit}
 use Rattle.recorded_text.specs.declared.Numeral.{Numeral}
@@ -39,6 +42,27 @@ module _ (text : List ℕ) (value i : ℕ) where
     unfolding digits
     digits_go e = rw (opened, e)
 
+-- the text from place at on: from its end on where it is shorter
+module _ (text : List ℕ) (at start : ℕ) (e : start ≡ min at (length text)) where
+  abbrev rest : List ℕ
+  rest = take (length text - start) (drop start text)
+
+  rest_length : length rest ≡ length text - start
+  rest_length = length-take-le (length text - start) (drop start text) (rw (length-drop start text) (omega arith))
+
+  module _ (i : ℕ) (h : i < length rest) where
+    pub rest_start : start ≡ at
+    rest_start = omega (arith, e, h, rest_length)
+
+    pub rest_within : at + i < length text
+    rest_within = omega (arith, e, h, rest_length)
+
+    pub rest_byte : get_or rest i 0 ≡ get_or text (at + i) 0
+    rest_byte = get_or-take (length text - start) (drop start text) i 0 (omega (arith, h, rest_length)) ∙ get_or-drop start text i 0 ∙ rw rest_start
+
+  pub rest_end : (i : ℕ) → length rest ≤ i → i ≤ length rest → at + i ≡ max at (length text)
+  rest_end i h g = omega (arith, e, h, g, rest_length)
+
 -- when a byte is taken, by the tests that the reader makes
 pub no_digit : (value b : ℕ) → is_ascii_digit b ≡ false → taken value b ≡ false
 unfolding taken
@@ -51,3 +75,16 @@ too_large value b l = rw (lt-leb value 999999999 l) (and-false (is_ascii_digit b
 pub a_digit : (value b : ℕ) → is_ascii_digit b ≡ true → value ≤ 999999999 → taken value b ≡ true
 unfolding taken
 a_digit value b e l = rw (e, le-leb value 999999999 l)
+
+-- the same of the byte as a number
+pub below_digits : (value b : ℕ) → b < 48 → taken value b ≡ false
+unfolding taken
+below_digits value b h = rw (lt-leb 48 b h)
+
+pub above_digits : (value b : ℕ) → 48 ≤ b → 57 < b → taken value b ≡ false
+unfolding taken
+above_digits value b h g = rw (le-leb 48 b h, lt-leb b 57 g)
+
+pub digit_taken : (value b : ℕ) → 48 ≤ b → b ≤ 57 → value ≤ 999999999 → taken value b ≡ true
+unfolding taken
+digit_taken value b h g l = rw (le-leb 48 b h, le-leb b 57 g, le-leb value 999999999 l)

@@ -2,6 +2,7 @@
 use crate::record::written;
 use float_bits::word_of_float;
 use placement::Laid;
+use recorded_text::NO_CALL;
 use std::alloc::{AllocError, Global};
 use store_definitions::{AdjustRefusal, Kept};
 use terms::Refusal;
@@ -38,11 +39,19 @@ impl Recorded for f32 {
 }
 
 impl Answer {
-    pub fn refused(alloc: Global, why: Refusal) -> Self {
+    fn of_value(alloc: Global, value: usize) -> Self {
         Answer {
-            value: u64::from(why) as usize,
+            value,
             numbers: Vec::new(alloc),
         }
+    }
+
+    pub fn refused(alloc: Global, why: Refusal) -> Self {
+        Answer::of_value(alloc, u64::from(why) as usize)
+    }
+
+    pub fn no_call(alloc: Global) -> Self {
+        Answer::of_value(alloc, NO_CALL)
     }
 
     pub fn given<T: Recorded>(alloc: Global, list: &[T]) -> Result<Self, AllocError> {

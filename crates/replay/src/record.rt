@@ -18,6 +18,9 @@ fn read(index: usize) -> usize {
     if index == NONE_WRITTEN { NONE } else { index }
 }
 
+// No call takes or answers more numbers; of a longer list the rest is read as what follows it.
+const MOST: usize = 64;
+
 #[derive(Drop)]
 pub struct Line {
     pub call: usize,
@@ -25,15 +28,20 @@ pub struct Line {
     pub second: usize,
     pub numbers: Vec<usize>,
     pub answer: Answer,
+    // How many numbers the record says that it answers.
+    pub answered: usize,
     pub free_start: usize,
     pub live_number: usize,
 }
 
-// How many numbers, and these. Each takes a byte of the text at least.
-fn next_numbers(alloc: Global, text: &[u8], at: &mut usize) -> Result<Vec<usize>, AllocError> {
-    let count = next_number(text, at);
+fn next_numbers(
+    alloc: Global,
+    text: &[u8],
+    at: &mut usize,
+    count: usize,
+) -> Result<Vec<usize>, AllocError> {
     let mut numbers = Vec::new(alloc);
-    for _ in 0..count.min(text.len()) {
+    for _ in 0..count.min(MOST) {
         numbers.push(next_number(text, at))?;
     }
     Ok(numbers)
@@ -44,11 +52,13 @@ pub fn next_line(alloc: Global, text: &[u8], at: &mut usize) -> Result<Line, All
     let call = next_number(text, at);
     let first = next_number(text, at);
     let second = next_number(text, at);
-    let numbers = next_numbers(alloc, text, at)?;
+    let taken = next_number(text, at);
+    let numbers = next_numbers(alloc, text, at, taken)?;
     let value = next_number(text, at);
+    let answered = next_number(text, at);
     let answer = Answer {
         value,
-        numbers: next_numbers(alloc, text, at)?,
+        numbers: next_numbers(alloc, text, at, answered)?,
     };
     Ok(Line {
         call,
@@ -56,6 +66,7 @@ pub fn next_line(alloc: Global, text: &[u8], at: &mut usize) -> Result<Line, All
         second,
         numbers,
         answer,
+        answered,
         free_start: next_number(text, at),
         live_number: next_number(text, at),
     })
@@ -82,10 +93,16 @@ impl Line {
         LabelIndex(read(self.first))
     }
 
+    // How many entries of a list a reading is lent.
+    pub fn room(&self) -> usize {
+        self.second.min(MOST)
+    }
+
+    // The last 32 bits of each number.
     pub fn words(&self, alloc: Global) -> Result<Vec<FloatBits>, AllocError> {
         self.numbers
             .iter()
-            .map(|number| u32::try_from(*number).unwrap_or(0))
+            .map(|number| (*number % 4_294_967_296) as u32)
             .collect(alloc)
     }
 

@@ -6,10 +6,12 @@
 
 mod equality;
 mod index_list;
+mod plain_sum;
 mod preview;
 mod sum;
 
 pub use equality::{copy_equals, is_equal_unchecked};
 pub use index_list::{missing_indices_unchecked, next_indices_unchecked};
+pub use plain_sum::plain_sum_unchecked;
 pub use preview::shingled_point_unchecked;
-pub use sum::point_sum_unchecked;
+pub use sum::{add_item, item_test, point_sum_unchecked};

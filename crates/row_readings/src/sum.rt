@@ -19,7 +19,7 @@ use terms::{FloatBits, Refusal};
 const LARGEST_WEIGHT: usize = 16_777_216;
 
 #[tactic(auto, using(crate::specs::SumLaws::item_dead, crate::specs::SumLaws::item_heavy, crate::specs::SumLaws::item_goes))]
-fn item_test(s: Store, reference_count: &[u16], item: Item) -> Result<(), Refusal>
+pub fn item_test(s: Store, reference_count: &[u16], item: Item) -> Result<(), Refusal>
     ensures { decision_means result ≡ items_decided (point_store s (counts_alone reference_count.now [])) (weighting_of item ∷ []) }
 {
     if !point_in_use(s, reference_count, item.index) {
@@ -42,7 +42,7 @@ fn items_test(s: Store, reference_count: &[u16], items: &[Item]) -> Result<(), R
 
 // One item that was judged: its row as it is stored, times its weight, is added to the sums.
 #[tactic(auto, using(crate::specs::SumLaws::row_read))]
-fn add_item(s: Store, store: &[FloatBits], location: &[u16], item: Item, out: &mut [f32])
+pub fn add_item(s: Store, store: &[FloatBits], location: &[u16], item: Item, out: &mut [f32])
     requires { (length out.old ≡ s.dimensions) × Addable s (length store.now) location.now (weighting_of item) }
     ensures { out.new ≡ add_scaled item.weight out.old (stored_row (point_store s (rows_alone store.now [] location.now)) item.index.0) }
 {

@@ -26,16 +26,16 @@ rows_as_pairs [] = refl
 rows_as_pairs (r ∷ rs) = ap (λ (qs : List Pairing). pairing r ∷ qs) (rows_as_pairs rs)
 
 module _ (rows : List (List ℕ)) where
-  abbrev pairs : List Pair
+  abbrev pub pairs : List Pair
   pairs = map pair_made rows
 
   rest_as_pairs : (i : ℕ) → pairings_of (drop i pairs) ≡ pairings (drop i rows)
   rest_as_pairs i = ap pairings_of (drop-map pair_made i rows) ∙ rows_as_pairs (drop i rows)
 
-  row_as_pair : (i : ℕ) → pair_at pairs i ≡ pair_made (get_or rows i [])
+  pub row_as_pair : (i : ℕ) → pair_at pairs i ≡ pair_made (get_or rows i [])
   row_as_pair i = get_or-map pair_made rows i []
 
-  as_long : length pairs ≡ length rows
+  pub as_long : length pairs ≡ length rows
   as_long = length-map rows pair_made
 
 -- the tables are as long as those

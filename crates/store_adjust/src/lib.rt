@@ -1,5 +1,5 @@
-// Adjust: a list of pairs, each an inc and a dec, in order, for callers that have checked the store. The pairs before a refused one
-// stand.
+// Adjust: a list of pairs, each an inc and a dec, in order. The pairs before a refused one stand. `adjust_pair` and `adjust_unchecked`
+// are for callers that have checked the store; `adjust_plain` checks it, and takes plain numbers.
 #![tactic(auto)]
 
 ghost use Rattle.std.specs.Prelude.{true, ◌≡◌};
@@ -13,9 +13,11 @@ ghost use Rattle.store_check.specs.Tables.{tables_lowering};
 ghost use Rattle.store_adjust.specs.Pairs.{pairings_of};
 
 mod pair;
+mod plain;
 
 use labels::LabelLowering;
 pub use pair::adjust_pair;
+pub use plain::{adjust_plain, adjust_rows};
 use store_definitions::{AdjustRefusal, Pair, PointTables, Store};
 
 // Of the elements only the lengths are known.

@@ -14,9 +14,9 @@ mod table;
 
 pub use bounds::{bounds_hold, free_start_well};
 use label_check::labels_well_formed;
-use labels::LabelsFree;
+use labels::{LabelTables, LabelsFree};
 pub use points::places_distinct;
-pub use record::{Lengths, lengths_of, record_well};
+pub use record::{Lengths, lengths_of, numbers_well, record_well};
 use store_definitions::{Store, Tables};
 use table::points_well;
 pub use table::table_well;
@@ -50,12 +50,25 @@ pub fn check(s: Store, floats: usize, window: usize, tables: Tables) -> Option<F
         tables.index_starts,
         tables.index_ends,
     )?;
+    let labels = tables.label_tables;
+    // Slice by slice: a copy of the whole would be a call of `memcpy`, which the archive needs for nothing else.
+    let label_tables = LabelTables {
+        labels: labels.labels,
+        label_attributes: labels.label_attributes,
+        label_count: labels.label_count,
+        label_starts: labels.label_starts,
+        label_ends: labels.label_ends,
+        attributes: labels.attributes,
+        attribute_count: labels.attribute_count,
+        attribute_starts: labels.attribute_starts,
+        attribute_ends: labels.attribute_ends,
+    };
     let free = labels_well_formed(
         s.store_labels,
         &s.classes,
         s.capacity,
         s.label_managers(),
-        tables.label_tables,
+        label_tables,
     )?;
     Some(Figures { live, free })
 }

@@ -40,7 +40,7 @@ pub fn lengths_of(
 }
 
 // All but the table of classes.
-fn numbers_well(s: Store, lent: Lengths) -> bool
+pub fn numbers_well(s: Store, lent: Lengths) -> bool
     ensures { result ≡ numbers_test s lent.floats lent.window lent.counts lent.places lent.starts lent.ends }
 {
     let dimensions = s.dimensions;

@@ -11,4 +11,4 @@ mod rows;
 pub use index_calls::{missing_indices, next_indices};
 pub use label_readings::{attribute, attribute_vec, label};
 pub use preview_calls::shingled_point;
-pub use rows::is_equal;
+pub use rows::{is_equal, point_sum_plain};

@@ -63,7 +63,11 @@ pub held_compacted : (s : Store) (elements location : List ℕ) (after : Layout 
 held_compacted s elements location after e =
     ap (λ (r : Rows ℕ). with_rows r (rows_held s elements location)) (compacted_rows_lem s elements location after e)
 
--- a well-formed store is compacted
+-- a well-formed store is compacted: with its rows, and with its elements and places
+pub rows_compacted : (p : PointStore ℕ) (after : Rows ℕ) → well_formed p ≡ true → after ≡ compacted_rows 0 p.header (rows_of p) → outcome done (with_rows after p) ≡ compact_spec 0 p
+unfolding compact_spec form_decided
+rows_compacted p after w e = rw (w, e)
+
 pub compact_done : (p : PointStore ℕ) (s : Store) (elements location : List ℕ) → well_formed p ≡ true → rows_held s elements location ≡ compacted_held (rows_held p.header p.memory.store p.memory.location) → outcome done (point_store s (with_elements elements location p.memory)) ≡ compact_spec 0 p
 unfolding compact_spec form_decided
 compact_done p s elements location w e =

@@ -76,3 +76,9 @@ impl From<Refusal> for u64 {
         }
     }
 }
+
+pub fn refusal_number(why: Refusal) -> u64
+    ensures { result ≡ number why }
+{
+    u64::from(why)
+}
