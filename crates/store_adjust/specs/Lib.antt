@@ -3,3 +3,4 @@ pub mod PairLaws
 pub mod Run
 pub mod Elements
 pub mod RowRun
+pub mod AfterCheck

@@ -4,7 +4,7 @@ use Rattle.labels.specs.Lent.{lists_lowering}
 use Rattle.store_definitions.specs.Lent.{lent_lowering, points_lent, read_as}
 use Rattle.store_adjust.specs.Elements.{adjust_whole}
 use Rattle.store_adjust.specs.Pairs.{pairings_of}
-use Rattle.store_adjust_pairs.specs.Run.{adjust_ready, adjust_ill_formed}
+use Rattle.store_adjust.specs.AfterCheck.{adjust_ready, adjust_ill_formed}
 use Rattle.store_adjust_pairs.proofs.adjust_count.Goals as goal
 
 pub returns-in_err-ok_or-clause-adjusted : goal.returns-in_err-ok_or-clause-adjusted

@@ -2,11 +2,7 @@
 use Rattle.std.proofs.Common.{rules, refl, sym, ◌∙◌}
 use Rattle.labels.specs.Lent.{lists_lowering}
 use Rattle.store_definitions.specs.Lent.{lent_lowering, points_lent, read_as}
-use Rattle.store_definitions.specs.Memory.{point_store}
-use Rattle.store_laws.specs.IllFormedLaws.{adjust_ill}
-use Rattle.store_check.specs.CheckLaws.{elementless}
-use Rattle.store_check.specs.Checked.{checked_lengths, lent_checked}
-use Rattle.store_counts.specs.ReadingLaws.{checked_well, checked_ill}
+use Rattle.store_adjust.specs.AfterCheck.{adjust_ready, adjust_ill_formed}
 use Rattle.store_adjust.specs.Pairs.{pairings}
 use Rattle.store_adjust.specs.Elements.{adjust_whole}
 use Rattle.store_adjust.proofs.plain.adjust_plain.Goals as goal
@@ -15,17 +11,14 @@ pub returns-in_err-ok_or-clause-adjusted : goal.returns-in_err-ok_or-clause-adju
 returns-in_err-ok_or-clause-adjusted c =
     let a = c.args in
     let m = lent_lowering a.store.now a.last_known_shingle.now a.points.now a.labels.now in
-    let answered = lent_checked a.s.now m c.read-2.result c.check.result (read_as c.read-2.result (points_lent a.points.now) c.read.result (lists_lowering a.labels.now) c.read-2.ensures c.read.ensures a.store.now a.last_known_shingle.now) c.check.ensures in
-    let ill = checked_ill (point_store a.s.now m) c.check.result _ _ (answered ∙ checked_lengths a.s.now m) (sym c.ok_or.ensures.value ∙ c.in_err-ok_or.was) in
-    let refused = adjust_ill (point_store a.s.now m) ill.0 (pairings a.pairs.now) in
-    search (rules, ill.1, refused)
+    let refused = adjust_ill_formed a.s.now m c.read-2.result c.check.result (read_as c.read-2.result (points_lent a.points.now) c.read.result (lists_lowering a.labels.now) c.read-2.ensures c.read.ensures a.store.now a.last_known_shingle.now) c.check.ensures _ (sym c.ok_or.ensures.value ∙ c.in_err-ok_or.was) (pairings a.pairs.now) in
+    search (rules, refused)
 
 pub adjust_rows-requires : goal.adjust_rows-requires
 adjust_rows-requires c =
     let a = c.args in
     let m = lent_lowering a.store.now a.last_known_shingle.now a.points.now a.labels.now in
-    let answered = lent_checked a.s.now m c.read-2.result c.check.result (read_as c.read-2.result (points_lent a.points.now) c.read.result (lists_lowering a.labels.now) c.read-2.ensures c.read.ensures a.store.now a.last_known_shingle.now) c.check.ensures in
-    checked_well (point_store a.s.now (elementless m)) c.check.result _ _ answered (sym c.ok_or.ensures.value ∙ c.in_ok-ok_or.was)
+    adjust_ready a.s.now m c.read-2.result c.check.result (read_as c.read-2.result (points_lent a.points.now) c.read.result (lists_lowering a.labels.now) c.read-2.ensures c.read.ensures a.store.now a.last_known_shingle.now) c.check.ensures _ (sym c.ok_or.ensures.value ∙ c.in_ok-ok_or.was)
 
 pub returns-clause-adjusted : goal.returns-clause-adjusted
 returns-clause-adjusted c =

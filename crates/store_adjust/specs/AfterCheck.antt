@@ -1,4 +1,4 @@
--- An adjust after a check that fails.
+-- What an adjust knows after its check, whatever form its list has.
 use Rattle.std.specs.Prelude.{ℕ, true, ◌≡◌, List, length, Option, Ok, Err}
 use Rattle.std.specs.Option.{ok_or}
 use Rattle.std.proofs.Common.{sym, ◌∙◌}
